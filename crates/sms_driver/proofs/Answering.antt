@@ -1,5 +1,5 @@
 -- The answers of a bind's workers stand at different places of what its reader handed on.
-use Rattle.std.proofs.Common.{◌≡◌, ◌==◌, ◌<◌, ◌≤◌, ◌+◌, ◌++◌, append_assoc, ℕ, zero, suc, true, false, if◌then◌else◌, List, [], ◌∷◌, length, map, get_or, Option, None, Some, refl, sym, ap, ◌∙◌, subst, arith, eqb-true}
+use Rattle.std.proofs.Common.{Bool, ◌≡◌, ◌==◌, ◌<◌, ◌≤◌, ◌+◌, ◌++◌, append_assoc, ℕ, zero, suc, true, false, if◌then◌else◌, List, [], ◌∷◌, length, map, get_or, Option, None, Some, refl, sym, ap, ◌∙◌, subst, arith, eqb-true}
 use Rattle.std.specs.Prelude.{slice_get, take, option_map}
 use Rattle.std.proofs.lemmas.Option.{slice_get-map}
 use Rattle.std.specs.List.{AllByRecursion, AllZip, concat}
@@ -124,9 +124,9 @@ AllHearOf sent heard ess = (w : ℕ) (es : List MessageEnd) → slice_get ess w 
 
 -- what a reader promises: where its rings were new, the attempts rest on the answers of the frames that were worked, and so on
 -- those of all whole frames that came
-pub bind_rests : (state : State) (begun : List ℕ) (before after : Option (List ℕ)) (old new : List (List Reply)) (held : Held) (end : ReaderEnd) (h : HandsOn state begun before after old new held end)
+pub bind_rests : (keeps : Bool) (state : State) (begun : List ℕ) (before after : Option (List ℕ)) (old new : List (List Reply)) (held : Held) (end : ReaderEnd) (h : HandsOn keeps state begun before after old new held end)
     (heard : List (List Reply)) (ess : List (List MessageEnd)) → ((w : ℕ) → get_or old w [] ≡ []) → AllHearOf new heard ess → RestOn (answers (h.worked ++ h.others)) ess
-bind_rests state begun before after old new held end h heard ess none all =
+bind_rests keeps state begun before after old new held end h heard ess none all =
     let entries = log h.deeds in
     let hear : AllHear entries heard ess = λ w es at.
     let x = all w es at in
@@ -198,7 +198,7 @@ bind_is_heard turns remaining mode told given end cs ess opened new read meet he
     ap (λ l. l ++ h.got) (d.whole ∙ append_assoc first (concat given.bound.frames) given.bound.framer) ∙ append_assoc first begun h.got
     in
     let divided = frame_before first (begun ++ h.got) frames h.rest d.each.0 h.divided in
-    let rests = bind_rests given.bound.session begun (remaining (device given.reader)) read.left (map sent given.rings) (map sent end.producers.items) read.held end h (map received cs) ess (none_sent given.rings new) (all_hear end.producers.items cs ess meet hear) in
+    let rests = bind_rests read.keeps given.bound.session begun (remaining (device given.reader)) read.left (map sent given.rings) (map sent end.producers.items) read.held end h (map received cs) ess (none_sent given.rings new) (all_hear end.producers.items cs ess meet hear) in
     record {
       left = read.left;
       octets = opened.octets ++ h.got;

@@ -16,7 +16,7 @@ use Rattle.sms_driver.specs.Reads.{AreOpened, HasRead, IsOpened, reading_in}
 
 module _ {Rd : Type 0} (turns : ℕ) (remaining : Rd → Option (List ℕ)) (all : BindSettings) (told : ℕ → Option (List ℕ)) where
   one_ended : (place : ℕ) (p : BindParts Rd) (d : ReaderEnd) (outcome : ReaderOutcome) → IsOpened all.settings.mode (told place) (remaining (device p.reader)) p.bound → IsSetUp all p → HasRead turns remaining (reading_in p) d → outcome ≡ outcome_of d → HasEnded all turns (told place) outcome
-  one_ended place p d outcome o s r is = record { bound = p.bound; between = remaining (device p.reader); opened = o; left = r.left; old = _; new = _; held = r.held; end = d; hands = r.hands; is = is; follows = r.follows ∙ ap most_held s.follow; most = r.most; took = λ e. subst (λ n. TookTurns turns n (remaining (device p.reader)) r.left) (sym (ap (λ (x : ReaderOutcome). x.errors) is)) (r.took (sym (ap (λ (x : ReaderOutcome). x.cause) is) ∙ e)); ended = λ e. r.ended (sym (ap (λ (x : ReaderOutcome). x.cause) is) ∙ e); stopped = λ seen e. r.stopped seen (sym (ap (λ (x : ReaderOutcome). x.cause) is) ∙ e); fault = λ e. subst (λ n. 0 < n) (sym (ap (λ (x : ReaderOutcome). x.errors) is)) (r.fault (sym (ap (λ (x : ReaderOutcome). x.cause) is) ∙ e)) }
+  one_ended place p d outcome o s r is = record { bound = p.bound; between = remaining (device p.reader); opened = o; left = r.left; old = _; new = _; held = r.held; end = d; keeps = r.keeps; hands = r.hands; is = is; follows = r.follows ∙ ap most_held s.follow; most = r.most; took = λ e. subst (λ n. TookTurns turns n (remaining (device p.reader)) r.left) (sym (ap (λ (x : ReaderOutcome). x.errors) is)) (r.took (sym (ap (λ (x : ReaderOutcome). x.cause) is) ∙ e)); ended = λ e. r.ended (sym (ap (λ (x : ReaderOutcome). x.cause) is) ∙ e); stopped = λ seen e. r.stopped seen (sym (ap (λ (x : ReaderOutcome). x.cause) is) ∙ e); fault = λ e. subst (λ n. 0 < n) (sym (ap (λ (x : ReaderOutcome). x.errors) is)) (r.fault (sym (ap (λ (x : ReaderOutcome). x.cause) is) ∙ e)) }
 
   ended_from : (place : ℕ) (parts : List (BindParts Rd)) (rs : List ReaderEnd) (bs : List BindEnd) → AreOpened remaining all.settings.mode told place parts → AllByRecursion (IsSetUp all) parts → AllZip (HasRead turns remaining) (map reading_in parts) rs → map (λ b. b.reader) bs ≡ map outcome_of rs
       → (i : ℕ) (b : BindEnd) → slice_get bs i ≡ Some b → HasEnded all turns (told (place + i)) b.reader

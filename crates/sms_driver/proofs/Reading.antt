@@ -1,5 +1,5 @@
 -- What a reader of a bind did with what it read, from the contract of its call.
-use Rattle.std.proofs.Common.{◌≡◌, ◌<◌, ◌≤◌, ◌-◌, ◌*◌, ◌^◌, ◌++◌, ◌∙◌, ℕ, List, Option, map, ap, subst, arith}
+use Rattle.std.proofs.Common.{Bool, ◌≡◌, ◌<◌, ◌≤◌, ◌-◌, ◌*◌, ◌^◌, ◌++◌, ◌∙◌, ℕ, List, Option, map, ap, refl, subst, arith}
 use Rattle.std.specs.List.{concat, AllZip}
 use Rattle.rtrb.specs.Ring.{SameProducer, sent}
 use Rattle.sms_pdu.specs.declared.tap.Tap.{Tap}
@@ -16,25 +16,28 @@ use Rattle.sms_driver.specs.Reads.{HasRead, Reading}
 use Rattle.sms_driver.proofs.Refusals.{some_counted}
 
 -- a device that had answered no error
-pub has_read : {Rd : Type 0} (turns : ℕ) (remaining : Rd → Option (List ℕ)) (given : Reading Rd) (old new : Tap Rd) (held : Held) (end : ReaderEnd) → device old ≡ device given.reader → faults_of old ≡ 0 → turns ≤ 2 ^ 40
+pub has_read : {Rd : Type 0} (turns : ℕ) (remaining : Rd → Option (List ℕ)) (given : Reading Rd) (old new : Tap Rd) (held : Held) (end : ReaderEnd) (keeps : Bool) → device old ≡ device given.reader → faults_of old ≡ 0 → turns ≤ 2 ^ 40
     → AllZip SameProducer given.rings end.producers.items
-    → HandsOn given.bound.session (concat given.bound.frames ++ given.bound.framer) (remaining (device old)) (remaining (device new)) (map sent given.rings) (map sent end.producers.items) held end
-    → held.most ≡ most_held given.follow.limit → ReadUntil remaining turns end.errors end.cause old new → HasRead turns remaining given end
-has_read turns remaining given old new held end same none few rings hands follows read =
+    → HandsOn keeps given.bound.session (concat given.bound.frames ++ given.bound.framer) (remaining (device old)) (remaining (device new)) (map sent given.rings) (map sent end.producers.items) held end
+    → held.most ≡ most_held given.follow.limit → ReadUntil remaining turns end.errors end.cause old new → (r : HasRead turns remaining given end) × (r.keeps ≡ keeps)
+has_read turns remaining given old new held end keeps same none few rings hands follows read =
     let there : remaining (device old) ≡ remaining (device given.reader) = ap remaining same in
-    let left = remaining (device new) in
-    record {
-      same = rings;
-      left = left;
-      held = held;
-      hands = subst (λ (r : Option (List ℕ)). HandsOn given.bound.session (concat given.bound.frames ++ given.bound.framer) r left (map sent given.rings) (map sent end.producers.items) held end) there hands;
-      follows = follows;
-      most = subst (λ (r : Option (List ℕ)). GaveAtMost (most_piece * turns) r left) there read.turned.most;
-      took = λ e. subst (λ (r : Option (List ℕ)). TookTurns turns end.errors r left) there (read.took (omega (arith, none, few)) e);
-      stopped = λ seen e. subst (λ (r : Option (List ℕ)). Stops turns r left) there (read.stopped seen e);
-      ended = λ e. read.end e;
-      fault = λ e. some_more (faults_of old) (faults_of new) end.errors none read.errors_counted (some_counted _ _ none (read.fault e));
-    }
+    let left = remaining (device new) in (
+      record {
+        same = rings;
+        left = left;
+        held = held;
+        keeps = keeps;
+        hands = subst (λ (r : Option (List ℕ)). HandsOn keeps given.bound.session (concat given.bound.frames ++ given.bound.framer) r left (map sent given.rings) (map sent end.producers.items) held end) there hands;
+        follows = follows;
+        most = subst (λ (r : Option (List ℕ)). GaveAtMost (most_piece * turns) r left) there read.turned.most;
+        took = λ e. subst (λ (r : Option (List ℕ)). TookTurns turns end.errors r left) there (read.took (omega (arith, none, few)) e);
+        stopped = λ seen e. subst (λ (r : Option (List ℕ)). Stops turns r left) there (read.stopped seen e);
+        ended = λ e. read.end e;
+        fault = λ e. some_more (faults_of old) (faults_of new) end.errors none read.errors_counted (some_counted _ _ none (read.fault e));
+      },
+      refl,
+    )
   where
     some_more : (a b n : ℕ) → a ≡ 0 → n ≡ b - a → 0 < b → 0 < n
     some_more a b n zero is more = omega arith

@@ -1,5 +1,5 @@
 -- How each bind's reader ended.
-use Rattle.std.specs.Prelude.{◌≡◌, ◌<◌, ◌*◌, ◌++◌, ℕ, List, Option, Some, slice_get}
+use Rattle.std.specs.Prelude.{◌≡◌, ◌<◌, ◌*◌, ◌++◌, ℕ, Bool, List, Option, Some, slice_get}
 use Rattle.std.specs.Io.KnownBytes.{IsAtEnd}
 use Rattle.std.specs.List.{concat}
 use Rattle.sms_pdu.specs.Turn.{most_piece, GaveAtMost}
@@ -29,7 +29,9 @@ pub record HasEnded (all : BindSettings) (turns : ℕ) (told : Option (List ℕ)
   pub new : List (List Reply)
   pub held : Held
   pub end : ReaderEnd
-  pub hands : HandsOn bound.session (concat bound.frames ++ bound.framer) between left old new held end
+  -- whether deliver_sm were to be kept
+  pub keeps : Bool
+  pub hands : HandsOn keeps bound.session (concat bound.frames ++ bound.framer) between left old new held end
   pub is : outcome ≡ outcome_of end
   -- it followed throttling as the settings say
   pub follows : held.most ≡ most_held (follow_of all)

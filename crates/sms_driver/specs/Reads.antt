@@ -1,5 +1,5 @@
 -- What the binds' readers are given, and what they do with it.
-use Rattle.std.specs.Prelude.{◌≡◌, ◌<◌, ◌++◌, ◌+◌, ◌*◌, ℕ, List, [], ◌∷◌, map, Option}
+use Rattle.std.specs.Prelude.{◌≡◌, ◌<◌, ◌++◌, ◌+◌, ◌*◌, ℕ, Bool, List, [], ◌∷◌, map, Option}
 use Rattle.std.specs.Io.KnownBytes.{Consumes, IsAtEnd}
 use Rattle.std.specs.List.{concat, AllZip}
 use Rattle.std.specs.declared.alloc.Global.{Global}
@@ -62,7 +62,9 @@ pub record HasRead {Rd : Type 0} (turns : ℕ) (remaining : Rd → Option (List 
   pub same : AllZip SameProducer given.rings end.producers.items
   pub left : Option (List ℕ)
   pub held : Held
-  pub hands : HandsOn given.bound.session (concat given.bound.frames ++ given.bound.framer) (remaining (device given.reader)) left (map sent given.rings) (map sent end.producers.items) held end
+  -- whether deliver_sm were to be kept
+  pub keeps : Bool
+  pub hands : HandsOn keeps given.bound.session (concat given.bound.frames ++ given.bound.framer) (remaining (device given.reader)) left (map sent given.rings) (map sent end.producers.items) held end
   -- it holds back slots as the limit says that it follows
   pub follows : held.most ≡ most_held given.follow.limit
   pub most : GaveAtMost (most_piece * turns) (remaining (device given.reader)) left

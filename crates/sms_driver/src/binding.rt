@@ -31,7 +31,9 @@ use crate::settings::RunSettings;
 use crate::{
     BindParts, Binds, DriverSeat, Following, SharedBind, UnbindResult, roll_back_if_failed,
 };
-use sms_bind::{BindFault, Bound, Line, LogKeeper, LogName, ReaderLeave, Settings, Wire, bind};
+use sms_bind::{
+    BindFault, Bound, Line, LogKeeper, LogName, ReaderLeave, ReadsBind, Settings, Wire, bind,
+};
 use sms_pdu::{DeviceError, Tap};
 use sms_slot::SlotRow;
 use sms_window::WindowSeat;
@@ -50,7 +52,7 @@ pub trait Dial {
     // What is known of a bind that gets no connection.
     ghost refuses: { Self → ℕ → Type 0 } = { λ _ _. ⊤ };
 
-    type Reader: Read + Send + Drop;
+    type Reader: ReadsBind + Send + Drop;
 
     type Writer: Write + Send + Drop;
 
@@ -247,7 +249,8 @@ fn make_bind<N: LogName, D: Dial>(
     ensures opened { IfOk result (λ m. IsOpened bind_settings.now.settings.mode (D.told dial.now bind_place) (D.Reader.remaining (device m.parts.reader)) m.parts.bound) }
     ensures set { IfOk result (λ m. IsSetUp bind_settings.now m.parts) }
     // The settings' bind was written, with the one number that was drawn from its window.
-    ensures asked { IfOk result (λ m. (number : ℕ) × (m.parts.keeper.view.numbers ≡ number ∷ []) × BindWritten bind_settings.now.settings number (D.Writer.contents (writer m.dialled.value)) (D.Writer.contents (writer m.asked.value))) }
+    // That number is by what the reader asks whether the line is alive.
+    ensures asked { IfOk result (λ m. (m.parts.keeper.view.numbers ≡ m.parts.number ∷ []) × BindWritten bind_settings.now.settings m.parts.number (D.Writer.contents (writer m.dialled.value)) (D.Writer.contents (writer m.asked.value))) }
     ensures driver_seat { IfOk result (λ m. (m.driver_seat.seat.window ≡ m.shared.window) × (m.driver_seat.requests ≡ [])) }
     ensures refused { IfErr result (IsFaultOf (D.refuses dial.now) (D.told dial.now) bind_settings.now.settings.mode bind_place) }
 {
@@ -271,9 +274,7 @@ fn make_bind<N: LogName, D: Dial>(
     } = dial_and_bind(alloc, dial, &bind_settings.settings, bind_place, number)?;
     let asked = Snapshot::of(&wire);
     let driver_seat = new_driver_seat(log, seat);
-    let Ok((line, leave)) = line_over(log, slots, wire) else {
-        return Err(SendFault::OutOfMemory);
-    };
+    let (line, leave) = line_over(log, slots, wire)?;
     Ok(NewBind {
         shared: SharedBind { line, window },
         parts: BindParts {
@@ -283,6 +284,7 @@ fn make_bind<N: LogName, D: Dial>(
             reader,
             bound,
             follow: follow_of(bind_settings),
+            number,
             leave,
         },
         driver_seat,

@@ -32,7 +32,7 @@ use crate::threads::placement::{Placement, seat_all};
 use crate::threads::scope::{Returned, StartFailure, drive};
 use crate::threads::task::{WorkerTask, tasks};
 use crate::{BindParts, Binds, DriverSeat, SharedBind, deal, unbind_all};
-use sms_bind::{BlankLog, LogKeeper, LogName, Requests};
+use sms_bind::{BlankLog, LogKeeper, LogName, ReadsBind, Requests};
 use sms_book::{Blank, BookName, Shares};
 use sms_worker::{Clock, Gate, Message, Pause, Rules, RunContext, WorkerEnd};
 use std::alloc::{AllocError, Global};
@@ -245,7 +245,7 @@ fn send_over<
     'x,
     'l: 'x,
     N: BookName + LogName + Send + Sync,
-    Rd: Read + Send + Drop,
+    Rd: ReadsBind + Send + Drop,
     W: Write + Send + Drop,
     G: Gate + Sync,
     K: Clock + Sync,

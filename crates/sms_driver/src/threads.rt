@@ -48,6 +48,7 @@ pub struct ReaderTask<'a, N: LogName, Rd, W: Write> {
     pub reader: Tap<Rd>,
     pub bound: Bound,
     pub follow: Following,
+    pub number: u32,
     pub producers: Vec<Producer<Reply>>,
     pub seat: WindowSeat,
     pub leave: ReaderLeave,

@@ -32,6 +32,8 @@ pub struct BindParts<Rd> {
     pub reader: Tap<Rd>,
     pub bound: Bound,
     pub follow: Following,
+    /// The number of the bind's request, by which the line is asked.
+    pub number: u32,
     pub leave: ReaderLeave,
 }
 

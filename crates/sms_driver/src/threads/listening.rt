@@ -2,6 +2,7 @@
 
 ghost use Rattle.std.specs.Prelude.{◌≡◌, ◌<◌, ◌≤◌, [], length, map, Err, IfErr, IfOk, IsOk, OnOk, vec_capacity};
 ghost use Rattle.std.specs.List.{AllByRecursion};
+ghost use Rattle.sms_pdu.specs.Devices.{device};
 ghost use Rattle.sms_driver.specs.StartGates.{IsReleased};
 ghost use Rattle.sms_driver.specs.Reads.{listener_of, listener_promised, reading_of, HasRead, IsUnread};
 ghost use Rattle.sms_driver.specs.Threads.{AreReaders};
@@ -11,7 +12,7 @@ use crate::fault::SendFault;
 use crate::start_gate::{Command, StartGate, ThreadResult};
 use crate::threads::{ReaderPromise, ReaderTask};
 use rtrb::Producer;
-use sms_bind::{LogName, ReaderCause, ReaderEnd, read_loop};
+use sms_bind::{LogName, ReaderBegin, ReaderCause, ReaderContext, ReaderEnd, ReadsBind};
 use sms_book::BookName;
 use sms_pdu::{Reply, Tap};
 use sms_window::WindowSeat;
@@ -44,9 +45,50 @@ fn unread(producers: Vec<Producer<Reply>>, seat: WindowSeat) -> ReaderEnd
     }
 }
 
-/// Waits at the gate, and then reads until the bind's end or gives back what it has. The errors of the
-/// input are counted from there on.
-fn listen<'s, N: LogName, Rd: Read, W: Write, R: Wait>(
+/// Reads until the bind's end. The errors of the input are counted from here on.
+fn read_task<N: LogName, Rd: ReadsBind, W: Write, R: Wait>(
+    rt: &R,
+    alloc: Global,
+    reader_task: ReaderTask<N, Rd, W>,
+    rules: &Rules,
+) -> ReaderEnd
+where
+    Rd: Drop,
+    requires same_window { reader_task.seat.window ≡ reader_task.window.now }
+    ensures window { result.seat.window ≡ reader_task.entry.seat.window }
+    // Deliver_sm are kept where the connection says so.
+    ensures read { (r : HasRead rules.now.turns Rd.remaining (reading_of reader_task.entry) result) × (r.keeps ≡ Rd.keeps (device reader_task.entry.reader)) }
+{
+    let ReaderTask {
+        reader,
+        bound,
+        follow,
+        number,
+        producers,
+        seat,
+        leave,
+        line,
+        window,
+    } = reader_task;
+    let context = ReaderContext {
+        rt,
+        alloc,
+        line,
+        window,
+    };
+    let begin = ReaderBegin {
+        bound,
+        producers,
+        seat,
+        follow: follow.limit,
+        number,
+    };
+    let input = reader.into_inner();
+    input.read_bind(&context, begin, leave, rules.turns)
+}
+
+/// Waits at the gate, and then reads until the bind's end or gives back what it has.
+fn listen<'s, N: LogName, Rd: ReadsBind, W: Write, R: Wait>(
     rt: &R,
     alloc: Global,
     latch: &'s StartGate,
@@ -61,38 +103,22 @@ where
         (IsUnread reader_task.entry.seat reader_task.entry.producers.items) result }
 {
     let started = latch.wait(rt);
-    let ReaderTask {
-        reader,
-        bound,
-        follow,
-        producers,
-        seat,
-        leave,
-        line,
-        window,
-    } = reader_task;
     match latch.command(&started) {
         Command::Go => {
-            let mut reader = Tap::new(reader.into_inner());
-            let (value, _down) = read_loop(
-                rt,
-                alloc,
-                &mut reader,
-                bound,
-                producers,
-                line,
-                window,
-                seat,
-                leave,
-                follow.limit,
-                rules.turns,
-            );
+            let value = read_task(rt, alloc, reader_task, rules);
             ThreadResult { started, value }
         }
-        Command::Leave => ThreadResult {
-            started,
-            value: unread(producers, seat),
-        },
+        Command::Leave => {
+            let ReaderTask {
+                producers,
+                seat,
+                ..
+            } = reader_task;
+            ThreadResult {
+                started,
+                value: unread(producers, seat),
+            }
+        }
     }
 }
 
@@ -102,7 +128,7 @@ fn start_reader<
     'l: 's,
     E,
     N: LogName + Send + Sync + 's,
-    Rd: Read + Send + Drop + 's,
+    Rd: ReadsBind + Send + Drop + 's,
     W: Write + Send + 's,
     R: Threads + Wait + Sync,
 >(
@@ -142,7 +168,7 @@ pub(crate) fn start_readers<
     'l: 's,
     E,
     N: BookName + LogName + Send + Sync + 's,
-    Rd: Read + Send + Drop + 's,
+    Rd: ReadsBind + Send + Drop + 's,
     W: Write + Send + 's,
     G: Gate + Sync,
     K: Clock + Sync,

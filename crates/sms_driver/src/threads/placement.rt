@@ -91,6 +91,7 @@ where
             reader,
             bound,
             follow,
+            number,
             leave,
         } = parts;
         seat_workers(shared, seats, &mut places)?;
@@ -98,6 +99,7 @@ where
             reader,
             bound,
             follow,
+            number,
             producers,
             seat: keeper,
             leave,

@@ -13,7 +13,7 @@ use crate::threads::task::WorkerTask;
 use crate::threads::working::{WorkerHandle, start_workers};
 use crate::threads::{ReaderTask, WorkerResult, join_all};
 use crate::{DriverSeat, SharedBind, UnboundBehind, unbind_all, unbind_and_wait};
-use sms_bind::{LogName, ReaderEnd};
+use sms_bind::{LogName, ReaderEnd, ReadsBind};
 use sms_book::BookName;
 use sms_worker::{Clock, Gate, Pause, RunContext};
 use std::alloc::{AllocError, Global};
@@ -102,7 +102,7 @@ pub(crate) fn drive<
     'l: 's,
     E,
     N: BookName + LogName + Send + Sync + 's,
-    Rd: Read + Send + Drop + 's,
+    Rd: ReadsBind + Send + Drop + 's,
     W: Write + Send + 's,
     G: Gate + Sync,
     K: Clock + Sync,

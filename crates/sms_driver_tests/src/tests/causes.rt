@@ -4,7 +4,7 @@ ghost use Rattle.std.specs.Prelude.{◌≡◌, IfOk};
 
 use super::same::same;
 use super::sending::{Beside, messages, settings};
-use sms_bind::{DownCause, ReaderCause};
+use sms_bind::{DownCause, Plain, ReaderCause};
 use sms_book::Opening;
 use sms_driver::{
     BindClosing, Devices, Dial, DownBy, RunSettings, Sending, SkipReason, Start, StartGate,
@@ -106,11 +106,11 @@ struct One<'a, S> {
 }
 
 impl<'a, S: time::Clock + Sync> Dial for One<'a, S> {
-    type Reader = Input<'a, S>;
+    type Reader = Plain<Input<'a, S>>;
 
     type Writer = Output;
 
-    fn dial(&self, _bind: u32) -> Option<(Input<'a, S>, Output)> {
+    fn dial(&self, _bind: u32) -> Option<(Plain<Input<'a, S>>, Output)> {
         let input = Input {
             rt: self.rt,
             left: self.ending.sends,
@@ -119,7 +119,7 @@ impl<'a, S: time::Clock + Sync> Dial for One<'a, S> {
         let output = Output {
             room: self.ending.room,
         };
-        Some((input, output))
+        Some((Plain { input }, output))
     }
 }
 

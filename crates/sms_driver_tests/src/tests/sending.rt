@@ -2,7 +2,7 @@
 
 ghost use Rattle.std.specs.Prelude.{◌≡◌, IfOk};
 
-use sms_bind::Settings;
+use sms_bind::{Plain, Settings};
 use sms_book::{Opening, Tariff};
 use sms_centre::{Pipe, PipeEnd, Script, ServeCause, ServeEnd, serve};
 use sms_driver::{
@@ -29,17 +29,20 @@ struct Pipes<'a, S> {
 }
 
 impl<'a, S: Wait + time::Clock + Sync> Dial for Pipes<'a, S> {
-    type Reader = PipeEnd<'a, S>;
+    type Reader = Plain<PipeEnd<'a, S>>;
 
     type Writer = PipeEnd<'a, S>;
 
-    fn dial(&self, bind: u32) -> Option<(PipeEnd<'a, S>, PipeEnd<'a, S>)> {
+    fn dial(&self, bind: u32) -> Option<(Plain<PipeEnd<'a, S>>, PipeEnd<'a, S>)> {
         let place = bind as usize;
         if place >= self.most {
             return None;
         }
         match (self.back.get(place), self.there.get(place)) {
-            (Some(back), Some(there)) => Some((back.end(self.rt), there.end(self.rt))),
+            (Some(back), Some(there)) => {
+                let input = back.end(self.rt);
+                Some((Plain { input }, there.end(self.rt)))
+            }
             _ => None,
         }
     }

@@ -3,6 +3,7 @@
 use super::driving::want_unbound;
 use super::same::same;
 use super::sending::{openings, settings};
+use sms_bind::Plain;
 use sms_centre::{Pipe, PipeEnd};
 use sms_driver::{Devices, Dial, SendFault, Sending, Start, StartGate, drive_all};
 use sms_worker::{Clock, Gate, Pause};
@@ -24,13 +25,16 @@ struct Silent<'a, S> {
 }
 
 impl<'a, S: Wait + time::Clock + Sync> Dial for Silent<'a, S> {
-    type Reader = PipeEnd<'a, S>;
+    type Reader = Plain<PipeEnd<'a, S>>;
 
     type Writer = PipeEnd<'a, S>;
 
-    fn dial(&self, bind: u32) -> Option<(PipeEnd<'a, S>, PipeEnd<'a, S>)> {
+    fn dial(&self, bind: u32) -> Option<(Plain<PipeEnd<'a, S>>, PipeEnd<'a, S>)> {
         match (self.back.get(bind as usize), self.there.get(bind as usize)) {
-            (Some(back), Some(there)) => Some((back.end(self.rt), there.end(self.rt))),
+            (Some(back), Some(there)) => {
+                let input = back.end(self.rt);
+                Some((Plain { input }, there.end(self.rt)))
+            }
             _ => None,
         }
     }

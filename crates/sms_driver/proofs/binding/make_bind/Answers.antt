@@ -41,7 +41,6 @@ returns-clause-set g c =
 
 pub returns-clause-asked : goal.returns-clause-asked
 returns-clause-asked g c = (
-  c.in_ok-window.field-0.number,
   ap (λ (v : View). v.numbers) c.split-seat.ensures.giver ∙ c.in-Ok.ensures.kept.1 ∙ c.in_ok-window.ensures.number,
   rw c.of-asked.ensures c.in_ok-reader.ensures.asked,
 )
@@ -60,5 +59,5 @@ line_over-requires-clause-behind g c =
 pub returns-clause-log : goal.returns-clause-log
 returns-clause-log g c =
     let seat = c.new_driver_seat-driver_seat.ensures.log in
-    let line = c.in-Ok-line_over.ensures.log in
+    let line = c.in_ok-line.ensures.log in
     record { away = (let one = seat.away in let other = line.away in omega arith); given = line.given ∙ seat.given; requests = line.requests ∙ seat.requests }
