@@ -11,6 +11,8 @@ mod parts;
 mod printing;
 mod run;
 
+pub use instants::write_told;
 pub use listing::{Columns, Listing};
+pub use parts::last_reply;
 pub(crate) use parts::ref_of;
 pub use run::run_listing;

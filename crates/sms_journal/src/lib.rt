@@ -17,7 +17,7 @@ pub mod rest;
 mod text;
 
 pub use audit::{AuditFault, run_audit};
-pub use bill::{Columns, Listing, run_listing};
+pub use bill::{Columns, Listing, last_reply, run_listing, write_told};
 pub use decisions::{DecisionFault, decisions_in};
 pub use error::JournalError;
 pub use notes::{

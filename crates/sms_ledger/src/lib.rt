@@ -32,6 +32,8 @@ mod posting;
 mod reading;
 mod refusal;
 mod rows;
+#[cfg(test)]
+mod tests;
 mod text;
 
 pub use books::Books;

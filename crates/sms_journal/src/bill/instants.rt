@@ -108,7 +108,7 @@ fn write_instant(text: &mut String, time: u64) -> Result<(), NoMemory>
 }
 
 /// The same, where it is known.
-fn write_told(text: &mut String, time: u64) -> Result<(), NoMemory>
+pub fn write_told(text: &mut String, time: u64) -> Result<(), NoMemory>
     ensures { OnOk result (string_bytes text.new ≡ string_bytes text.old ++ told_text time) }
 {
     if is_told(time) {

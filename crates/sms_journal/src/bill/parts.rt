@@ -45,7 +45,7 @@ fn write_id(alloc: Global, text: &mut String, id: &MessageId) -> Result<(), NoMe
 }
 
 /// The answer to the last attempt.
-fn last_reply(attempts: &[Attempt<()>]) -> Option<Reply>
+pub fn last_reply(attempts: &[Attempt<()>]) -> Option<Reply>
     ensures { result ≡ reply_to_last attempts.now }
 {
     match attempts.last() {

@@ -1,8 +1,8 @@
 //! What commands book: top-ups, what a run takes, and its statement.
 
 use crate::tests::{WEEK, ledger_of, name_of, same};
+use crate::{Ledger, Name, Payment, Refusal, Run};
 use sms_core::Row as RunRow;
-use sms_ledger::{Ledger, Name, Payment, Refusal, Run};
 use std::alloc::Global;
 use std::process::Abort;
 use std::test::Fail;

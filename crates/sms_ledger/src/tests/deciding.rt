@@ -1,7 +1,7 @@
 //! What is booked of parts in doubt.
 
 use crate::tests::{WEEK, ledger_of, name_of, same};
-use sms_ledger::{Decision, Fate, Refusal, Run, RunAccount};
+use crate::{Decision, Fate, Refusal, Run, RunAccount};
 use std::alloc::{AllocError, Global};
 use std::process::Abort;
 use std::test::Fail;

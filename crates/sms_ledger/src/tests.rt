@@ -4,7 +4,7 @@ mod deciding;
 mod posting;
 mod reading;
 
-use sms_ledger::{Ledger, Name, Row};
+use crate::{Ledger, Name, Row};
 use std::alloc::Global;
 use std::fmt::Debug;
 use std::process::Abort;

@@ -1,7 +1,7 @@
 //! Octets that are a ledger's, and others.
 
 use crate::tests::{WEEK, ledger_of, name_of, row, same};
-use sms_ledger::{Fault, Ledger, Name, Refusal, Row, whole_len};
+use crate::{Fault, Ledger, Name, Refusal, Row, whole_len};
 use std::alloc::{AllocError, Global};
 use std::process::Abort;
 use std::test::Fail;
