@@ -1,6 +1,6 @@
 -- A journal's file that is written to is still the file that was made.
 use Rattle.std.proofs.Common.{ℕ, List, ◌++◌, Option}
-use Rattle.std.specs.Io.KnownBytes.{Appends, Keeps, WriteAppends}
+use Rattle.std.specs.Io.KnownBytes.{Keeps, WriteAppends}
 use Rattle.std.proofs.KnownBytes.{Appends-kept, Appends-trans}
 use Rattle.std.specs.Prelude.{Result, Ok, Err, take}
 use Rattle.sms_devices.specs.Journals.{FromMade}

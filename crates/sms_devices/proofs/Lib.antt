@@ -6,3 +6,4 @@ pub mod Buckets
 pub mod Stops
 pub mod Grown
 pub mod Appended
+pub mod Keeping

@@ -11,6 +11,7 @@ pub mod Headers
 pub mod Wakes
 pub mod Rests
 pub mod Connecting
+pub mod Inboxes
 pub mod Incomings
 pub mod Steady
 pub mod Places

@@ -27,6 +27,7 @@ use crate::gate::silence::{Silence, SilenceLimit};
 pub(crate) use crate::gate::timestamp::Timestamp;
 use crate::gate::watchdog::Watchdog;
 use crate::places::WorkerPlace;
+use crate::stay::Stay;
 use crate::terminal::{Progress, TakesNotices};
 use crate::transport::Outboxes;
 use sms_journal::Note;
@@ -64,6 +65,7 @@ pub struct GateLimits {
 /// - Before a message begins (`may_begin`) it may be refused, since the run was asked to stop.
 /// - A message that begins, a message that is refused, and a request that wasn't sent after all are noted
 ///   in the journal. Some of the messages that begin get memory for those that follow.
+/// - At the end of its messages (`see_last`) a worker stays for their receipts, if that is asked for.
 /// - At the end of a turn (`see`) a person sees how far the run is, the watchdog gives the bind up if it has
 ///   been silent for too long, and the rate limiter takes an unused permit back.
 #[derive(Drop)]
@@ -74,6 +76,8 @@ pub struct SendGate<'r, S, N, K, C, L, W> {
     progress: &'r Progress<'r, S, N, K>,
     rate_limiter: Option<L>,
     watchdog: Option<W>,
+    /// What is waited for behind the last message, if anything is.
+    stay: Option<&'r Stay>,
 }
 
 /// The gate over the outboxes of a run.
@@ -121,7 +125,15 @@ impl<'r, 'j, S, N, K: Clock, R: Wait, F: Write + OpenFile> RunGate<'r, 'j, S, N,
             progress,
             rate_limiter,
             watchdog,
+            stay: None,
         }
+    }
+
+    /// The same, at which a worker stays for this behind its last message, if there is anything to wait for.
+    pub fn staying(self, stay: Option<&'r Stay>) -> RunGate<'r, 'j, S, N, K, R, F>
+        ensures limits { (result.rate_limiter ≡ self.entry.rate_limiter) × (result.watchdog ≡ self.entry.watchdog) }
+    {
+        SendGate { stay, ..self }
     }
 
     /// The binds are made anew for a further round. The rate holds over all rounds.
@@ -265,5 +277,8 @@ impl<'r, S: Eprint, N: TakesNotices, K: Clock, C: Connections, L: LimitsRate, W:
     {
         self.progress.see_last(worker, ends);
         self.take_back(self.connections.place_of(worker));
+        if let Some(stay) = self.stay {
+            self.connections.stay(worker, stay, ends);
+        }
     }
 }

@@ -15,5 +15,6 @@ mod rate_limiter;
 mod same;
 mod screen;
 mod standard;
+mod stays;
 mod ticks;
 mod watchdog;

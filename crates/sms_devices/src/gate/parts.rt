@@ -5,7 +5,9 @@
 
 use crate::gate::timestamp::Timestamp;
 use crate::places::WorkerPlace;
+use crate::stay::Stay;
 use sms_journal::Note;
+use sms_worker::MessageEnd;
 
 /// Limits how fast each bind sends.
 pub trait LimitsRate {
@@ -101,6 +103,9 @@ pub trait Connections {
     /// Gives the connection of the worker's bind up: its line goes down.
     fn give_up(&self, place: WorkerPlace)
         ensures { gives_up self.now place };
+
+    /// Waits for the final receipts of the parts of these that were charged, while the worker's bind is up.
+    fn stay(&self, worker: usize, stay: &Stay, ends: &[MessageEnd]);
 
     /// Whether a message may begin: the run was not asked to stop.
     fn may_begin(&self) -> bool

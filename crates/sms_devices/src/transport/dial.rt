@@ -4,6 +4,7 @@ ghost use Rattle.std.specs.Prelude.{◌≡◌, IfOk, IfSome, IsOkAnd, map, strin
 ghost use Rattle.sms_devices.specs.Centres.CentreAt.{Named, Own};
 ghost use Rattle.sms_devices.specs.Outboxes.{has_journal};
 
+use crate::inbox::LineSettings;
 use crate::transport::connecting::Unconnected;
 use crate::transport::connects::{Connects, RoundBind};
 use crate::transport::guarded::Guarded;
@@ -46,21 +47,24 @@ fn answered_by<R: Clock>(rt: &R, deadline: Option<Deadline>) -> Option<Deadline>
 
 /// The reader and the writer of the connection that was reached, or why there is none. What is written waits in
 /// the outbox.
-fn ends_of<'r, 'j, S: Drop, R: Wait + Clock, F: Write + OpenFile>(
+fn ends_of<'r, 'j, S: Drop, R: Wait + Clock, F: Write + OpenFile, I: Write + OpenFile>(
     alloc: Global,
     outboxes: &'r Outboxes<'j, R, F>,
     outbox: &'r Outbox<'j, R, F>,
     bind: u32,
     deadline: Option<Deadline>,
+    lines: &LineSettings<'j, I>,
     reached: Result<(S, Guarded<'j, TcpStream, R, F>), Unconnected>,
 ) -> Result<
     (
-        WakingReader<'r, 'j, S, R, F>,
+        WakingReader<'r, 'j, S, R, F, I>,
         OutboxWriter<'r, 'j, R, Outbox<'j, R, F>>,
     ),
     Unconnected,
 >
-    ensures { IfOk result (λ ends. IsOkAnd reached.entry (λ both. ends.0.inner ≡ both.0)) }
+    ensures inner { IfOk result (λ ends. IsOkAnd reached.entry (λ both. ends.0.inner ≡ both.0)) }
+    ensures lines { IfOk result (λ ends. ends.0.lines ≡ lines.now) }
+    ensures place { IfOk result (λ ends. ends.0.bind ≡ bind) }
 {
     let rt = outboxes.rt();
     let clock = outboxes.clock();
@@ -84,6 +88,7 @@ fn ends_of<'r, 'j, S: Drop, R: Wait + Clock, F: Write + OpenFile>(
         outbox,
         clock,
         incoming,
+        lines: lines.another(),
     };
     let writer = OutboxWriter {
         rt,
@@ -95,28 +100,31 @@ fn ends_of<'r, 'j, S: Drop, R: Wait + Clock, F: Write + OpenFile>(
 }
 
 /// Ends the dialling of a bind: its reader and its writer. If there is no connection, the outbox keeps why.
-fn finish_dial<'r, 'j, S: Drop, R: Wait + Clock, F: Write + OpenFile>(
+fn finish_dial<'r, 'j, S: Drop, R: Wait + Clock, F: Write + OpenFile, I: Write + OpenFile>(
     alloc: Global,
     outboxes: &'r Outboxes<'j, R, F>,
     outbox: &'r Outbox<'j, R, F>,
     bind: u32,
     deadline: Option<Deadline>,
+    lines: &LineSettings<'j, I>,
     reached: Result<(S, Guarded<'j, TcpStream, R, F>), Unconnected>,
 ) -> Option<
     (
-        WakingReader<'r, 'j, S, R, F>,
+        WakingReader<'r, 'j, S, R, F, I>,
         OutboxWriter<'r, 'j, R, Outbox<'j, R, F>>,
     ),
 >
-    ensures { IfSome result (λ ends. IsOkAnd reached.entry (λ both. ends.0.inner ≡ both.0)) }
+    ensures inner { IfSome result (λ ends. IsOkAnd reached.entry (λ both. ends.0.inner ≡ both.0)) }
+    ensures lines { IfSome result (λ ends. ends.0.lines ≡ lines.now) }
+    ensures place { IfSome result (λ ends. ends.0.bind ≡ bind) }
 {
-    let ends = ends_of(alloc, outboxes, outbox, bind, deadline, reached);
+    let ends = ends_of(alloc, outboxes, outbox, bind, deadline, lines, reached);
     outbox.dialled(outboxes.rt(), ends)
 }
 
 /// Connects to a message centre, for the binds of one round.
 #[derive(Drop)]
-pub struct TcpDial<'r, 'j, R: Wait, F: Write + OpenFile> {
+pub struct TcpDial<'r, 'j, R: Wait, F: Write + OpenFile, I> {
     pub rt: &'j R,
     pub alloc: Global,
     pub outboxes: &'r Outboxes<'j, R, F>,
@@ -127,13 +135,20 @@ pub struct TcpDial<'r, 'j, R: Wait, F: Write + OpenFile> {
     pub connect_ms: Option<u32>,
     pub host: &'r str,
     pub port: u16,
+    /// What the readers of the binds have beside their connections.
+    pub lines: LineSettings<'j, I>,
 }
 
-impl<'r, 'j, R: Connects + Clock + Sync, F: Write + OpenFile + Send + Drop> Dial
-    for TcpDial<'r, 'j, R, F> {
+impl<
+    'r,
+    'j,
+    R: Connects + Clock + Sync,
+    F: Write + OpenFile + Send + Drop,
+    I: Write + OpenFile + Send + Drop,
+> Dial for TcpDial<'r, 'j, R, F, I> {
     ghost told = { λ d bind. R.tells d.rt.now (Named d.host.now d.port) (has_journal d.outboxes.now) d.round bind };
 
-    type Reader = WakingReader<'r, 'j, R::Incoming, R, F>;
+    type Reader = WakingReader<'r, 'j, R::Incoming, R, F, I>;
 
     type Writer = OutboxWriter<'r, 'j, R, Outbox<'j, R, F>>;
 
@@ -142,10 +157,14 @@ impl<'r, 'j, R: Connects + Clock + Sync, F: Write + OpenFile + Send + Drop> Dial
         bind: u32,
     ) -> Option<
         (
-            WakingReader<'r, 'j, R::Incoming, R, F>,
+            WakingReader<'r, 'j, R::Incoming, R, F, I>,
             OutboxWriter<'r, 'j, R, Outbox<'j, R, F>>,
         ),
-    > {
+    >
+        ensures told { IfSome result (λ ends. R.Incoming.remaining ends.0.inner ≡ R.tells self.now.rt.now (Named self.now.host.now self.now.port) (has_journal self.now.outboxes.now) self.now.round bind) }
+        ensures lines { IfSome result (λ ends. ends.0.lines ≡ self.now.lines) }
+        ensures place { IfSome result (λ ends. ends.0.bind ≡ bind) }
+    {
         let outbox = self.outboxes.get(bind)?;
         let deadline = outbox.dialled(self.rt, deadline_of(self.rt, self.connect_ms))?;
         let round = self.round;
@@ -153,13 +172,21 @@ impl<'r, 'j, R: Connects + Clock + Sync, F: Write + OpenFile + Send + Drop> Dial
         let reached = self
             .rt
             .reach(self.outboxes, place, self.host, self.port, deadline);
-        finish_dial(self.alloc, self.outboxes, outbox, bind, deadline, reached)
+        finish_dial(
+            self.alloc,
+            self.outboxes,
+            outbox,
+            bind,
+            deadline,
+            &self.lines,
+            reached,
+        )
     }
 }
 
 /// Connects to a test centre for each bind of one round, which is started in a thread of its own.
 #[derive(Drop)]
-pub struct LoopDial<'r, 'j, R: Wait, F: Write + OpenFile> {
+pub struct LoopDial<'r, 'j, R: Wait, F: Write + OpenFile, I> {
     pub rt: &'j R,
     pub alloc: Global,
     pub outboxes: &'r Outboxes<'j, R, F>,
@@ -172,13 +199,20 @@ pub struct LoopDial<'r, 'j, R: Wait, F: Write + OpenFile> {
     /// The script of the test centres.
     pub bind_status: u32,
     pub answers: &'r [String],
+    /// What the readers of the binds have beside their connections.
+    pub lines: LineSettings<'j, I>,
 }
 
-impl<'r, 'j, R: Connects + Clock + Sync, F: Write + OpenFile + Send + Drop> Dial
-    for LoopDial<'r, 'j, R, F> {
+impl<
+    'r,
+    'j,
+    R: Connects + Clock + Sync,
+    F: Write + OpenFile + Send + Drop,
+    I: Write + OpenFile + Send + Drop,
+> Dial for LoopDial<'r, 'j, R, F, I> {
     ghost told = { λ d bind. R.tells d.rt.now (Own d.bind_status (map string_bytes d.answers.now)) (has_journal d.outboxes.now) d.round bind };
 
-    type Reader = WakingReader<'r, 'j, R::Incoming, R, F>;
+    type Reader = WakingReader<'r, 'j, R::Incoming, R, F, I>;
 
     type Writer = OutboxWriter<'r, 'j, R, Outbox<'j, R, F>>;
 
@@ -187,10 +221,14 @@ impl<'r, 'j, R: Connects + Clock + Sync, F: Write + OpenFile + Send + Drop> Dial
         bind: u32,
     ) -> Option<
         (
-            WakingReader<'r, 'j, R::Incoming, R, F>,
+            WakingReader<'r, 'j, R::Incoming, R, F, I>,
             OutboxWriter<'r, 'j, R, Outbox<'j, R, F>>,
         ),
-    > {
+    >
+        ensures told { IfSome result (λ ends. R.Incoming.remaining ends.0.inner ≡ R.tells self.now.rt.now (Own self.now.bind_status (map string_bytes self.now.answers.now)) (has_journal self.now.outboxes.now) self.now.round bind) }
+        ensures lines { IfSome result (λ ends. ends.0.lines ≡ self.now.lines) }
+        ensures place { IfSome result (λ ends. ends.0.bind ≡ bind) }
+    {
         let outbox = self.outboxes.get(bind)?;
         let deadline = outbox.dialled(self.rt, deadline_of(self.rt, self.connect_ms))?;
         let round = self.round;
@@ -204,6 +242,14 @@ impl<'r, 'j, R: Connects + Clock + Sync, F: Write + OpenFile + Send + Drop> Dial
             self.answers,
             deadline,
         );
-        finish_dial(self.alloc, self.outboxes, outbox, bind, deadline, reached)
+        finish_dial(
+            self.alloc,
+            self.outboxes,
+            outbox,
+            bind,
+            deadline,
+            &self.lines,
+            reached,
+        )
     }
 }

@@ -7,18 +7,23 @@ ghost use Rattle.sms_devices.specs.Outboxes.{has_journal, outbox_of, workers_of}
 
 use crate::clock::Ticks;
 use crate::gate::{Connections, Timestamp, make_note};
-use crate::journal::{Journal, StopSigns, let_out_of};
+use crate::journal::{Journal, StopSigns, has_failed, let_out_of};
 use crate::places::{PerBind, WorkerPlace};
+use crate::stay::Stay;
 use crate::transport::connecting::{Reason, Unconnected};
 use crate::transport::guarded::Guarded;
 use crate::transport::outbox::Outbox;
 use crate::waking::Bells;
 use sms_journal::Note;
+use sms_worker::{Clock as _, MessageEnd};
 use std::fs::OpenFile;
 use std::io::Write;
 use std::sync::Wait;
 use std::sync::atomic::{AtomicU32, Ordering};
 use std::time::{Clock, Duration};
+
+/// How many milliseconds lie between two looks for receipts.
+const LOOK_MS: u64 = 200;
 
 /// The outboxes of all binds, and the bells of their workers.
 #[derive(Drop)]
@@ -177,6 +182,14 @@ impl<'j, R: Wait + Clock + StopSigns, F: Write + OpenFile> Outboxes<'j, R, F> {
             None => false,
         }
     }
+
+    /// Whether a worker that began at this moment to wait for receipts is to wait no longer: its time is over, none can come any more,
+    /// or the run was asked to stop. None comes once its bind is down. Once the journal has failed none is acknowledged.
+    fn is_stayed(&self, place: WorkerPlace, stay: &Stay, begun: u64) -> bool {
+        let is_deaf = stay.is_ended() || !self.bells.rings_for_all(place.bind());
+        let waited = self.clock.now_ms().saturating_sub(begun);
+        is_deaf || waited >= stay.ms() || has_failed(self.journal) || self.is_stopped()
+    }
 }
 
 impl<'j, R: Wait + Clock + StopSigns, F: Write + OpenFile> Connections for Outboxes<'j, R, F> {
@@ -215,6 +228,20 @@ impl<'j, R: Wait + Clock + StopSigns, F: Write + OpenFile> Connections for Outbo
     fn give_up(&self, place: WorkerPlace) {
         if let Some(outbox) = self.each.of(place) {
             outbox.give_up(self.rt);
+        }
+    }
+
+    fn stay(&self, worker: usize, stay: &Stay, ends: &[MessageEnd]) {
+        let place = self.bells.place_of(worker);
+        let begun = self.clock.now_ms();
+        let mut next = 0;
+        for _look in 0..u32::MAX {
+            next = stay.first_left(self.rt, ends, next);
+            if next >= ends.len() || self.is_stayed(place, stay, begun) {
+                return;
+            }
+            self.flush_bind(place.bind());
+            self.bells.wait(self.rt, worker, LOOK_MS);
         }
     }
 

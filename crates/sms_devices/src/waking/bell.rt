@@ -70,7 +70,7 @@ pub struct Bells {
     workers: u32,
     of_workers: [Bell; MOST_WORKERS],
     of_driver: Bell,
-    /// Whether a write to the bind's connection failed.
+    /// Whether a write to the bind's connection failed, or its reader has ended.
     has_failed: [AtomicBool; MOST_BINDS],
     owners: [Owners; MOST_BINDS],
 }
@@ -127,7 +127,7 @@ impl Bells {
         self.of_driver.ring(rt);
     }
 
-    /// A write to the bind's connection failed. The thread that wrote takes the line down next.
+    /// A write to the bind's connection failed, and the thread that wrote takes the line down next; or its reader has ended.
     pub fn fail<R: Wait>(&self, rt: &R, bind: usize) {
         if let Some(has_failed) = self.has_failed.get(bind) {
             has_failed.store(true, Ordering::SeqCst);
@@ -135,7 +135,7 @@ impl Bells {
         self.ring_bind(rt, bind);
     }
 
-    /// The binds are made anew: no write failed yet.
+    /// The binds are made anew: no write failed yet, and no reader has ended.
     pub(crate) fn renew(&self) {
         for has_failed in &self.has_failed {
             has_failed.store(false, Ordering::SeqCst);
@@ -143,7 +143,7 @@ impl Bells {
     }
 
     /// Whether a bell rings for everything that a worker of the bind waits for, except what is due by the
-    /// clock. False once a write failed, and beyond the last bind.
+    /// clock. False once a write failed or the bind's reader has ended, and beyond the last bind.
     pub(crate) fn rings_for_all(&self, bind: usize) -> bool {
         match self.has_failed.get(bind) {
             Some(has_failed) => !has_failed.load(Ordering::SeqCst),

@@ -1,15 +1,21 @@
 //! The reader of a bind's connection, which wakes the workers whose answers came in.
 
-ghost use Rattle.std.specs.Prelude.{◌≡◌, MatchResult, nat_lt, take};
+ghost use Rattle.std.specs.Prelude.{◌≡◌, ◌<◌, MatchResult, nat_lt, take};
 ghost use Rattle.std.specs.Io.{ReadsAtMost};
 ghost use Rattle.std.specs.Io.KnownBytes.{ReadConsumes};
+ghost use Rattle.sms_devices.specs.Inboxes.{IsBegun};
 ghost use Rattle.sms_devices.specs.Incomings.{Received, all_woken};
 
 use crate::clock::Ticks;
+use crate::inbox::{LineDevice, LineSettings};
 use crate::journal::{Journal, has_failed};
 use crate::transport::Outbox;
 use crate::waking::bell::Bells;
 use crate::waking::incoming::Incoming;
+use sms_bind::{
+    LogName, ReaderBegin, ReaderContext, ReaderEnd, ReaderLeave, ReadsBind, read_loop_with,
+};
+use sms_pdu::Tap;
 use sms_worker::Clock;
 use std::fs::OpenFile;
 use std::io::{Error, ErrorKind, Read, Write};
@@ -24,7 +30,7 @@ use std::{io, time};
 /// - Once the journal has failed nothing more goes out. It gives the connection up as soon as no answer
 ///   is still to come.
 /// - When it is dropped the line is down, and it wakes all workers of the bind.
-pub struct WakingReader<'r, 'j, S, R: Wait, F: Write + OpenFile> {
+pub struct WakingReader<'r, 'j, S, R: Wait, F: Write + OpenFile, I> {
     pub inner: S,
     pub rt: &'j R,
     /// The journal of the run, if it has one. Once it has failed nothing more goes out.
@@ -35,9 +41,11 @@ pub struct WakingReader<'r, 'j, S, R: Wait, F: Write + OpenFile> {
     /// The clock of the run. Each read reads it, so that it notices when the process was stopped.
     pub clock: &'r Ticks<'j, R>,
     pub incoming: Incoming,
+    /// What the bind's reader has beside the connection.
+    pub lines: LineSettings<'j, I>,
 }
 
-impl<'r, 'j, S: Drop, R: Wait, F: Write + OpenFile> Drop for WakingReader<'r, 'j, S, R, F> {
+impl<'r, 'j, S: Drop, R: Wait, F: Write + OpenFile, I> Drop for WakingReader<'r, 'j, S, R, F, I> {
     fn drop(self) {
         let WakingReader {
             inner,
@@ -48,14 +56,15 @@ impl<'r, 'j, S: Drop, R: Wait, F: Write + OpenFile> Drop for WakingReader<'r, 'j
             outbox: _,
             clock: _,
             incoming: _,
+            lines: _,
         } = self;
         drop(inner);
-        bells.ring_bind(rt, bind);
+        bells.fail(rt, bind);
     }
 }
 
-impl<'r, 'j, S: Read, R: Wait + time::Clock, F: Write + OpenFile> Read
-    for WakingReader<'r, 'j, S, R, F> {
+impl<'r, 'j, S: Read, R: Wait + time::Clock, F: Write + OpenFile, I> Read
+    for WakingReader<'r, 'j, S, R, F, I> {
     ghost remaining = { λ r. S.remaining r.inner };
 
     fn read(&mut self, buf: &mut [u8]) -> io::Result<usize>
@@ -79,5 +88,46 @@ impl<'r, 'j, S: Read, R: Wait + time::Clock, F: Write + OpenFile> Read
                 .see(self.bells.owners(self.bind), &buf[..*count]);
         }
         read
+    }
+}
+
+impl<'r, 'j, S, R: Wait + time::Clock, F: Write + OpenFile, I> WakingReader<'r, 'j, S, R, F, I> {
+    /// What the bind's reader has beside the connection. Its line is watched from now on.
+    fn device(&self) -> LineDevice<'r, 'j, R, I>
+        ensures inbox { result.inbox ≡ self.now.lines.inbox }
+        ensures watched { IsBegun self.now.lines.enquire result.enquiry }
+        ensures bind { self.now.bind < 256 → result.bind ≡ self.now.bind }
+    {
+        let bind = match u8::try_from(self.bind) {
+            Ok(bind) => bind,
+            Err(_great) => u8::MAX,
+        };
+        LineDevice::new(self.rt, self.clock, bind, self.lines.another())
+    }
+}
+
+impl<
+    'r,
+    'j,
+    S: Read + Drop,
+    R: Wait + time::Clock,
+    F: Write + OpenFile,
+    I: Write + OpenFile,
+> ReadsBind for WakingReader<'r, 'j, S, R, F, I> {
+    ghost use Rattle.std.specs.Option.{is_some};
+
+    ghost keeps = { λ r. is_some r.lines.inbox };
+
+    fn read_bind<N: LogName, W: Write, X: Wait>(
+        self,
+        context: &ReaderContext<'_, N, W, X>,
+        begin: ReaderBegin,
+        leave: ReaderLeave,
+        turns: u64,
+    ) -> ReaderEnd {
+        let mut device = self.device();
+        let mut reader = Tap::new(self);
+        let (end, _down) = read_loop_with(context, &mut device, &mut reader, begin, leave, turns);
+        end
     }
 }

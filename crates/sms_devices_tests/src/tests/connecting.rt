@@ -2,8 +2,9 @@
 
 use super::loopback::{dial_to, listening, no_journal};
 use super::same::same;
-use sms_devices::{LoopDial, Outboxes, TcpDial, Unconnected};
+use sms_devices::{LineSettings, LoopDial, Outboxes, TcpDial, Unconnected};
 use sms_driver::Dial;
+use std::fs::File;
 use std::process::Abort;
 
 // There is no connection, for this reason.
@@ -83,6 +84,7 @@ fn gives_another_reason_if_no_centre_is_started(rt: HostRuntime) {
         listener: &listener,
         bind_status: 0,
         answers: &[],
+        lines: LineSettings::<File>::none(),
     };
     let late = dial.dial(0);
     expect_none(&rt, late, outboxes.reason(0).why, Unconnected::TimedOut);

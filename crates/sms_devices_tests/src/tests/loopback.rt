@@ -1,7 +1,9 @@
 //! Connections of binds to a listener of the test's own, on the loopback interface.
 
 use super::same::same;
-use sms_devices::{Connects, Journal, Outbox, OutboxWriter, Outboxes, TcpDial, WakingReader};
+use sms_devices::{
+    Connects, Journal, LineSettings, Outbox, OutboxWriter, Outboxes, TcpDial, WakingReader,
+};
 use sms_driver::Dial;
 use std::fs::{File, OpenFile};
 use std::io::{Read, Write};
@@ -35,7 +37,7 @@ pub fn dial_to<'r, 'j, R: AllocGlobal + Wait, F: Write + OpenFile>(
     outboxes: &'r Outboxes<'j, R, F>,
     port: u16,
     connect_ms: Option<u32>,
-) -> TcpDial<'r, 'j, R, F> {
+) -> TcpDial<'r, 'j, R, F, File> {
     TcpDial {
         rt,
         alloc: rt.alloc(),
@@ -44,6 +46,7 @@ pub fn dial_to<'r, 'j, R: AllocGlobal + Wait, F: Write + OpenFile>(
         connect_ms,
         host: "127.0.0.1",
         port,
+        lines: LineSettings::none(),
     }
 }
 
@@ -70,7 +73,7 @@ pub fn connected<
     bind: u32,
     connect_ms: Option<u32>,
 ) -> (
-    WakingReader<'r, 'j, R::Incoming, R, F>,
+    WakingReader<'r, 'j, R::Incoming, R, F, File>,
     OutboxWriter<'r, 'j, R, Outbox<'j, R, F>>,
     TcpStream,
 ) {

@@ -6,9 +6,10 @@ use super::loopback::{
 };
 use super::paper::{PaperFile, Sheet};
 use super::same::same;
-use sms_devices::{Journal, LoopDial, Outboxes, Parking};
+use sms_devices::{Journal, LineSettings, LoopDial, Outboxes, Parking};
 use sms_driver::Dial;
 use sms_worker::Pause;
+use std::fs::File;
 use std::io::{Read, Write};
 use std::net::{Ipv4Addr, TcpStream};
 use std::process::Abort;
@@ -177,6 +178,7 @@ fn serves_its_own_sender(rt: HostRuntime) {
         listener: &listener,
         bind_status: 0,
         answers: &answers,
+        lines: LineSettings::<File>::none(),
     };
     let Some((mut reader, mut writer)) = dial.dial(0) else {
         panic!(rt; "no connection")
