@@ -43,9 +43,9 @@ kept_so sent rows left report old new result (Some kept) rows_are left_is report
 }
 
 -- nothing is kept where a sending failed early
-pub unkept : (old new : Option (List ℕ)) (fault : Fault) (kept : Option TheKept) → kept ≡ None → KeepsSent old new (Err fault) kept
-unkept old new fault None none = tt
-unkept old new fault (Some kept) none = cc
+pub unkept : (old new : Option (List ℕ)) (r : Result ℕ Fault) (kept : Option TheKept) → kept ≡ None → KeepsSent old new r kept
+unkept old new r None none = tt
+unkept old new r (Some kept) none = cc
 
 -- the same once the fault has its reason
 pub kept_reasoned : (r x : Result ℕ Fault) (old new : Option (List ℕ)) (kept : Option TheKept) → IfOk r (λ s. x ≡ Ok s) → IfErr r (IsOf x) → KeepsSent old new x kept → KeepsSent old new r kept

@@ -10,6 +10,7 @@ use Rattle.sms_files.specs.declared.input.Input.{Input}
 use Rattle.sms_journal.specs.OfLedger.{run_head}
 use Rattle.sms_files.specs.declared.config.Config.{Config}
 use Rattle.sms_send.specs.ConfigFiles.{FailsReadingConfig, IsConfigFile}
+use Rattle.sms_send.specs.InboxFiles.{LacksInbox}
 use Rattle.sms_send.specs.FieldFiles.{AreFieldsAt, FailsFields}
 use Rattle.sms_send.specs.Headed.{FailsMessages, HasMessages}
 use Rattle.sms_send.specs.Kept.{KeepsThrough}
@@ -111,6 +112,7 @@ module _ {F J : Type 0} (makes : List ℕ → J → Type 0) (contents : J → Op
   abbrev Why : Fault → Config → Type 0
   Why fault config =
       FailsMessages finds config.files fault
+      ⊎ LacksInbox (bytes_of order.lines.inbox) config fault
       ⊎ (AreFieldsAt finds (bytes_of order.fields) config.fields × (named : NamedFiles) × HasMessages finds config.files named × (read : ConfigFile) × (read.config ≡ config) × (wanted : JournalFile) × (order.journal ≡ Some wanted)
       × FailsOnLedger makes refuses held tells kind holds lacks errs octets stored opening is_closed ledger order.again order.strict read named wanted begun old new fault)
 
@@ -118,10 +120,13 @@ module _ {F J : Type 0} (makes : List ℕ → J → Type 0) (contents : J → Op
       → FailsOnLedger makes refuses held tells kind holds lacks errs octets stored opening is_closed slice order.again order.strict file named wanted begun old new fault → FailsSendOn makes refuses held finds tells kind holds lacks errs octets stored opening is_closed ledger order begun old new fault
   fails_on named wanted fault has given fails =
       inr (inr (inr (inr (of_config finds (string_bytes order.config) file (Why fault) is
-      (inr (fielded, named, has, file, refl, wanted, given, subst (λ (l : List ℕ). FailsOnLedger makes refuses held tells kind holds lacks errs octets stored opening is_closed l order.again order.strict file named wanted begun old new fault) named_so fails))))))
+      (inr (inr (fielded, named, has, file, refl, wanted, given, subst (λ (l : List ℕ). FailsOnLedger makes refuses held tells kind holds lacks errs octets stored opening is_closed l order.again order.strict file named wanted begun old new fault) named_so fails)))))))
 
   pub without_messages : (fault : Fault) → FailsMessages finds file.config.files fault → FailsSendOn makes refuses held finds tells kind holds lacks errs octets stored opening is_closed ledger order begun old new fault
   without_messages fault fails = inr (inr (inr (inr (of_config finds (string_bytes order.config) file (Why fault) is (inl fails)))))
+
+  pub without_inbox : (fault : Fault) → LacksInbox (bytes_of order.lines.inbox) file.config fault → FailsSendOn makes refuses held finds tells kind holds lacks errs octets stored opening is_closed ledger order begun old new fault
+  without_inbox fault lacks_it = inr (inr (inr (inr (of_config finds (string_bytes order.config) file (Why fault) is (inr (inl lacks_it))))))
 
 -- the config or the fields can't be read
 pub without_config : {F J : Type 0} (makes : List ℕ → J → Type 0) (refuses held : List ℕ → Type 0) (finds : List ℕ → Option Told → Type 0) (tells : CentreAt → Bool → ℕ → ℕ → Told) (kind : TargetKind) (holds : List ℕ → F → Type 0) (lacks : List ℕ → LedgerFailure → Type 0) (errs : ErrorKind → Type 0) (octets stored : F → Option (List ℕ))

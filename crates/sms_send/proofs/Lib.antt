@@ -3,7 +3,9 @@ pub mod Asking
 pub mod Charging
 pub mod ConfigFiles
 pub mod Covering
+pub mod Delivering
 pub mod FieldFiles
+pub mod InboxFiles
 pub mod JobsDone
 pub mod LedgerArgs
 pub mod Lines

@@ -1,5 +1,5 @@
 -- What work that is sent in one round, or in as many as it takes, comes to.
-use Rattle.std.proofs.Common.{◌≡◌, ℕ, Option, Some, None, Result, Ok, Err, IfErr, IfOk, subst, sym}
+use Rattle.std.proofs.Common.{ℕ, Some, None, Result, Ok, Err, IfErr, IfOk, subst, sym}
 use Rattle.sms_files.specs.Inputs.{Told}
 use Rattle.sms_files.specs.declared.input.Input.{Input}
 use Rattle.sms_driver.specs.declared.start.StartPhase.{StartPhase}

@@ -1,5 +1,5 @@
 -- Payments that are booked in the file of a ledger.
-use Rattle.std.proofs.Common.{◌≡◌, ◌⊎◌, ◌≤◌, ◌+◌, ◌∙◌, ◌++◌, ℕ, List, Option, None, Some, String, Global, sym, ap, subst, inl, inr, refl, arith, length, length-append, take}
+use Rattle.std.proofs.Common.{◌≡◌, ◌⊎◌, ◌≤◌, ◌∙◌, ◌++◌, ℕ, List, Option, None, Some, String, Global, sym, ap, subst, inl, inr, refl, arith, length, length-append, take}
 use Rattle.std.specs.Io.KnownBytes.{Keeps}
 use Rattle.std.specs.declared.io.ErrorKind.{ErrorKind}
 use Rattle.std.specs.Prelude.{MatchOption, string_bytes}
@@ -15,7 +15,7 @@ use Rattle.sms_ledger.specs.declared.refusal.Refusal.TheVariants.{NothingPaid, P
 use Rattle.sms_files.specs.Output.{WritesFront}
 use Rattle.sms_devices.specs.declared.ledger.failure.LedgerFailure.{LedgerFailure}
 use Rattle.sms_send.specs.Faults.{fault_of_payment, output_failed}
-use Rattle.sms_send.specs.Ledgers.{Books, FailsBalance, FailsBooking, FailsReading, FailsToTake, HasLine, IsAppended, IsRead, LacksLine, PaymentsStand, Takes}
+use Rattle.sms_send.specs.Ledgers.{Books, FailsBalance, FailsBooking, FailsReading, FailsToTake, HasLine, IsRead, LacksLine, PaymentsStand, Takes}
 use Rattle.sms_send.specs.declared.faults.fault.Fault.{Fault}
 use Rattle.sms_send.specs.declared.faults.fault.Fault.TheVariants as faults
 

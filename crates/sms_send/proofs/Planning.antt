@@ -6,7 +6,6 @@ use Rattle.std.specs.declared.io.ErrorKind.{ErrorKind}
 use Rattle.sms_book.specs.declared.opening.Opening.{Opening}
 use Rattle.sms_devices.specs.declared.journal.files.Unmade.{Unmade as WhyUnmade}
 use Rattle.sms_devices.specs.declared.journal.files.Unmade.TheVariants.{Failed, Held}
-use Rattle.sms_files.specs.declared.config.Config.{Config}
 use Rattle.sms_files.specs.declared.input.Input.{Input}
 use Rattle.sms_journal.specs.OfLedger.{HaveNames, run_head, run_name, takings_for}
 use Rattle.sms_journal.specs.Stages.{AreRowsOf}
@@ -24,7 +23,6 @@ use Rattle.sms_send.specs.declared.faults.fault.Fault.TheVariants.{OutOfMemory}
 use Rattle.sms_send.specs.declared.files.config_file.ConfigFile.{ConfigFile}
 use Rattle.sms_send.specs.declared.files.named_files.NamedFiles.{NamedFiles}
 use Rattle.sms_send.specs.declared.files.sending_input.NotedInput.{NotedInput}
-use Rattle.sms_send.specs.declared.jobs.ledger_send.BegunRun.{BegunRun}
 use Rattle.sms_send.specs.declared.jobs.ledger_send.Plan.{Plan}
 
 -- ---- a plan

@@ -1,11 +1,9 @@
 -- A run that its journal leaves: what was printed of it or sent on, and why it was not.
-use Rattle.std.proofs.Common.{◌≡◌, ◌⊎◌, inl, inr, ◌∙◌, ◌<◌, ℕ, Bool, true, List, length, Option, Result, Ok, Err, IfOk, IfErr, OnOk, ap, refl, subst, sym, arith}
-use Rattle.std.specs.Prelude.{◌≢◌, string_bytes}
+use Rattle.std.proofs.Common.{◌≡◌, ◌⊎◌, inl, inr, ◌∙◌, ℕ, Bool, List, length, Option, Result, Ok, Err, IfErr, OnOk, ap, subst, sym}
 use Rattle.std.specs.Io.KnownBytes.{Appends}
 use Rattle.sms_book.specs.declared.opening.Opening.{Opening}
 use Rattle.sms_core.specs.declared.row.Row.{Row}
 use Rattle.sms_message.specs.declared.ends.MessageEnd.{MessageEnd}
-use Rattle.sms_files.specs.Inputs.{Told}
 use Rattle.sms_files.specs.Report.{report_of}
 use Rattle.sms_journal.specs.Left.{count_left}
 use Rattle.sms_journal.specs.declared.recovery.resuming.JournaledRun.{JournaledRun}

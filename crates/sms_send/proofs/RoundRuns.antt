@@ -1,12 +1,11 @@
 -- What a run of rounds is of its input, and a run that went on after its journal.
-use Rattle.std.proofs.Common.{◌≡◌, ◌⊎◌, inl, inr, ◌∙◌, ◌+◌, ℕ, List, Vec, Global, ap, refl, sym, subst, arith}
+use Rattle.std.proofs.Common.{◌≡◌, inl, ◌+◌, ℕ, List, Vec, Global, ap, refl, sym, subst, arith}
 use Rattle.std.specs.Prelude.{Option}
 use Rattle.std.specs.List.{AllZip}
 use Rattle.sms_book.specs.Openings.{credits_of}
 use Rattle.sms_book.specs.Tariffs.{Price}
 use Rattle.sms_book.specs.declared.opening.Opening.{Opening}
 use Rattle.sms_core.specs.declared.row.Row.{Row}
-use Rattle.sms_message.specs.declared.ends.MessageEnd.{MessageEnd as EndBy}
 use Rattle.sms_message.specs.declared.message.Message.{Message}
 use Rattle.sms_pdu.specs.declared.command.Mode.{Mode}
 use Rattle.sms_worker.specs.Types.{MessageEnd}
@@ -23,8 +22,8 @@ use Rattle.sms_journal.specs.Left.{SaysSame, free_in, left_in}
 use Rattle.sms_journal.specs.declared.recovery.resuming.JournaledRun.{JournaledRun}
 use Rattle.sms_send.proofs.RoundSums.{runs_add_up}
 use Rattle.sms_send.proofs.Sendings.{fault_at, of_a_round, of_the_first}
-use Rattle.sms_send.specs.Faults.{ComesAt, fault_of_sending}
-use Rattle.sms_send.specs.Rounds.{AreNumbered, AreRounds, AreSmall, ComesTo, FailsRounds, IsPutTogether, IsResumed, IsRun, OfARound, Round, most_rounds}
+use Rattle.sms_send.specs.Faults.{ComesAt}
+use Rattle.sms_send.specs.Rounds.{AreNumbered, AreRounds, AreSmall, ComesTo, FailsRounds, IsPutTogether, IsResumed, IsRun, OfARound, most_rounds}
 use Rattle.sms_send.specs.Sent.{FailsDriving}
 use Rattle.sms_send.specs.Settings.{AreRunSettings}
 use Rattle.sms_send.specs.declared.args.send_args.Again.{Again}

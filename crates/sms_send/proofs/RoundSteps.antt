@@ -1,11 +1,10 @@
 -- How a run goes from round to round.
-use Rattle.std.proofs.Common.{◌≡◌, ◌⊎◌, inl, inr, ℕ, suc, ◌+◌, ◌<◌, ◌≤◌, Bool, true, false, List, [], ◌∷◌, length, refl, ap, sym, ◌∙◌, subst, arith, true≢false}
+use Rattle.std.proofs.Common.{◌≡◌, ◌⊎◌, inl, inr, ℕ, ◌+◌, ◌<◌, ◌≤◌, true, List, [], ◌∷◌, length, refl, ap, sym, ◌∙◌, subst, arith, true≢false}
 use Rattle.std.proofs.lemmas.List.{length-map}
 use Rattle.std.specs.Prelude.{Option, Some, None, Result, Ok, Err, IfOk, IfErr, IfSome, OnOk}
 use Rattle.std.specs.List.{AllZip}
 use Rattle.sms_book.specs.Openings.{credits_of}
 use Rattle.sms_book.specs.declared.opening.Opening.{Opening}
-use Rattle.sms_core.specs.declared.row.Row.{Row}
 use Rattle.sms_message.specs.declared.message.Message.{Message}
 use Rattle.sms_worker.specs.EndOf.{IsEndOf}
 use Rattle.sms_worker.specs.Types.{MessageEnd}
@@ -22,7 +21,6 @@ use Rattle.sms_driver.specs.declared.start.StartPhase.TheVariants.{Idle, Release
 use Rattle.sms_journal.proofs.Over.{length_left}
 use Rattle.sms_journal.specs.Left.{SaysSame, count_left, free_in, left_in}
 use Rattle.sms_send.proofs.RoundSums.{each_of, some_left, zip_length}
-use Rattle.sms_send.specs.Faults.{fault_of_sending}
 use Rattle.sms_send.specs.Rounds.{AreNumbered, AreRounds, ComesAfter, ComesTo, EndsRun, EndsWith, FailsRounds, GoesOnWith, IsNextRound, OfARound, Round, StandsAt, TellsRound, left_by, may_follow, may_mend}
 use Rattle.sms_send.specs.declared.faults.fault.Fault.{Fault}
 

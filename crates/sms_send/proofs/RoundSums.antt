@@ -1,11 +1,11 @@
 -- What the rounds of a run come to: an end for each message, a row for each account, and their sums.
-use Rattle.std.proofs.Common.{◌≡◌, ◌⊎◌, inl, inr, ℕ, zero, suc, ◌+◌, ◌-◌, ◌^◌, ◌<◌, ◌≤◌, Bool, true, false, List, [], ◌∷◌, length, refl, ap, sym, ◌∙◌, subst, arith}
+use Rattle.std.proofs.Common.{◌≡◌, inl, inr, ℕ, zero, suc, ◌+◌, ◌-◌, ◌^◌, ◌<◌, ◌≤◌, Bool, true, false, List, [], ◌∷◌, length, refl, ap, sym, ◌∙◌, subst, arith}
 use Rattle.std.proofs.lemmas.List.{get_or-map}
-use Rattle.std.specs.Prelude.{if◌then◌else◌, min, leb, Option}
+use Rattle.std.specs.Prelude.{if◌then◌else◌, Option}
 use Rattle.std.proofs.lemmas.Bool.Decides.{leb_tells}
 use Rattle.std.specs.List.{AllZip}
 use Rattle.sms_book.specs.Portions.{row_at, topped_at}
-use Rattle.sms_core.specs.Rows.{IsBalanced, charged_of, no_row, reserved_of, returned_of}
+use Rattle.sms_core.specs.Rows.{charged_of, no_row, reserved_of, returned_of}
 use Rattle.sms_core.specs.declared.request.Phase.{Phase}
 use Rattle.sms_core.specs.declared.row.Row.{Row}
 use Rattle.sms_message.specs.Ends.{credits}
@@ -19,7 +19,7 @@ use Rattle.sms_journal.proofs.OverSums.{copies_agree, sums_add}
 use Rattle.sms_journal.specs.Left.{SaysSame, count_left, free_in, is_left, left_in}
 use Rattle.sms_journal.specs.Over.{capped_sum, ends_over, row_over, rows_over}
 use Rattle.sms_journal.specs.OverLaws.{AreOfRound}
-use Rattle.sms_send.specs.Rounds.{AreRounds, AreSmall, AreSumsOver, IsFirst, IsFurther, IsRowOver, IsSumUpTo, Round}
+use Rattle.sms_send.specs.Rounds.{AreRounds, AreSmall, AreSumsOver, IsFurther, IsRowOver, IsSumUpTo, Round}
 
 -- rows
 

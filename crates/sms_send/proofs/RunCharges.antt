@@ -1,6 +1,6 @@
 -- Each charged part of a run of rounds was read in one of them, in a place of its own.
-use Rattle.std.proofs.Common.{◌≡◌, ◌⊎◌, inl, inr, ◌<◌, ◌+◌, ◌∙◌, ℕ, zero, suc, Bool, true, false, List, [], ◌∷◌, length, refl, ap, sym, subst, arith}
-use Rattle.std.specs.Prelude.{Option, Some, None, if◌then◌else◌, slice_get}
+use Rattle.std.proofs.Common.{◌≡◌, ◌⊎◌, inl, inr, ◌<◌, ◌∙◌, ℕ, zero, suc, Bool, true, false, List, [], ◌∷◌, length, refl, ap, sym, subst, arith}
+use Rattle.std.specs.Prelude.{Option, Some, if◌then◌else◌, slice_get}
 use Rattle.sms_core.specs.declared.row.Row.{Row}
 use Rattle.sms_message.specs.Ends.{segment_at}
 use Rattle.sms_message.specs.declared.message.Message.{Message}

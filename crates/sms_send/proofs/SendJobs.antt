@@ -8,6 +8,7 @@ use Rattle.sms_files.specs.declared.input.Input.{Input}
 use Rattle.sms_send.specs.Words.{bytes_of}
 use Rattle.sms_send.specs.ConfigFiles.{FailsReadingConfig, IsConfigFile, OfConfig}
 use Rattle.sms_send.specs.FieldFiles.{AreFieldsAt, FailsFields}
+use Rattle.sms_send.specs.InboxFiles.{LacksInbox}
 use Rattle.sms_send.specs.Opened.{FailsOpeningFiles}
 use Rattle.sms_send.specs.Reached.{centre_in}
 use Rattle.sms_send.specs.Reading.{FailsReading, IsRead, IsReadFrom}
@@ -49,7 +50,7 @@ sends_by finds tells name kind file centre config accounts messages tariff wante
 pub missing_fails : (begins : JournalFile → Fault → Type 0) (finds : List ℕ → Option Told → Type 0) (tells : CentreAt → Bool → ℕ → ℕ → Told) (kind : TargetKind) (order : SendArgs) (old new : Option (List ℕ)) (fault : Fault) (file : ConfigFile)
     → IsConfigFile finds (string_bytes order.config) file → FailsOpeningFiles finds file.config.files fault → FailsSendJob begins finds tells kind order old new fault
 missing_fails begins finds tells kind order old new fault file is missing =
-    inr (inr (of_config finds (string_bytes order.config) file (FailsBy begins finds tells kind (bytes_of order.fields) order.again order.strict order.journal old new fault) is (inl (inl missing))))
+    inr (inr (inr (of_config finds (string_bytes order.config) file (FailsBy begins finds tells kind (bytes_of order.fields) order.again order.strict order.journal old new fault) is (inl (inl missing)))))
 
 -- the files can't be read
 pub reading_fails : (begins : JournalFile → Fault → Type 0) (finds : List ℕ → Option Told → Type 0) (tells : CentreAt → Bool → ℕ → ℕ → Told) (kind : TargetKind) (order : SendArgs) (old new : Option (List ℕ)) (fault : Fault) (file : ConfigFile)
@@ -57,9 +58,9 @@ pub reading_fails : (begins : JournalFile → Fault → Type 0) (finds : List �
     → IsConfigFile finds (string_bytes order.config) file → AreOpen finds file.config config accounts messages tariff → whole ≡ (order.strict || is_some order.journal)
     → FailsReading whole order.strict config accounts messages tariff fault → FailsSendJob begins finds tells kind order old new fault
 reading_fails begins finds tells kind order old new fault file config accounts messages tariff whole is opened wholly fails =
-    inr (inr (of_config finds (string_bytes order.config) file (FailsBy begins finds tells kind (bytes_of order.fields) order.again order.strict order.journal old new fault) is
+    inr (inr (inr (of_config finds (string_bytes order.config) file (FailsBy begins finds tells kind (bytes_of order.fields) order.again order.strict order.journal old new fault) is
     (inl (unread_open finds (order.strict || is_some order.journal) order.strict file.config config accounts messages tariff fault opened
-    (subst (λ (w : Bool). FailsReading w order.strict config accounts messages tariff fault) wholly fails)))))
+    (subst (λ (w : Bool). FailsReading w order.strict config accounts messages tariff fault) wholly fails))))))
 
 -- what they say wasn't sent
 pub input_fails : (begins : JournalFile → Fault → Type 0) (finds : List ℕ → Option Told → Type 0) (tells : CentreAt → Bool → ℕ → ℕ → Told) (kind : TargetKind) (order : SendArgs) (old new : Option (List ℕ)) (fault : Fault) (file : ConfigFile)
@@ -67,17 +68,23 @@ pub input_fails : (begins : JournalFile → Fault → Type 0) (finds : List ℕ 
     → IsConfigFile finds (string_bytes order.config) file → AreFieldsAt finds (bytes_of order.fields) file.config.fields → AreOpen finds file.config config accounts messages tariff → centre ≡ centre_in kind file.config → order.journal ≡ journal → whole ≡ (order.strict || is_some journal)
     → IsReadFrom whole order.strict config accounts messages tariff given → FailsInput begins centre (tells centre) order.again order.strict journal given old new fault → FailsSendJob begins finds tells kind order old new fault
 input_fails begins finds tells kind order old new fault file centre config accounts messages tariff whole journal given is fielded opened reaches is_journal wholly read fails =
-    inr (inr (of_config finds (string_bytes order.config) file (FailsBy begins finds tells kind (bytes_of order.fields) order.again order.strict order.journal old new fault) is
+    inr (inr (inr (of_config finds (string_bytes order.config) file (FailsBy begins finds tells kind (bytes_of order.fields) order.again order.strict order.journal old new fault) is
     (subst (λ (j : Option JournalFile). FailsBy begins finds tells kind (bytes_of order.fields) order.again order.strict j old new fault file.config) (sym is_journal)
     (inr (
       fielded,
       given,
       subst (λ (w : Bool). IsRead finds w order.strict file.config given) wholly (read_open finds whole order.strict file.config config accounts messages tariff given opened read),
       subst (λ (c : CentreAt). FailsInput begins c (tells c) order.again order.strict journal given old new fault) reaches fails,
-    )))))
+    ))))))
 
 -- the config or the fields can't be read
 pub unread_fails : (begins : JournalFile → Fault → Type 0) (finds : List ℕ → Option Told → Type 0) (tells : CentreAt → Bool → ℕ → ℕ → Told) (kind : TargetKind) (order : SendArgs) (old new : Option (List ℕ)) (fault : Fault)
     → FailsReadingConfig finds order.config fault ⊎ FailsFields finds (bytes_of order.fields) fault → FailsSendJob begins finds tells kind order old new fault
 unread_fails begins finds tells kind order old new fault (inl config) = inl config
 unread_fails begins finds tells kind order old new fault (inr fields) = inr (inl fields)
+
+-- there is no inbox
+pub inbox_fails : (begins : JournalFile → Fault → Type 0) (finds : List ℕ → Option Told → Type 0) (tells : CentreAt → Bool → ℕ → ℕ → Told) (kind : TargetKind) (order : SendArgs) (old new : Option (List ℕ)) (fault : Fault) (file : ConfigFile)
+    → IsConfigFile finds (string_bytes order.config) file → LacksInbox (bytes_of order.lines.inbox) file.config fault → FailsSendJob begins finds tells kind order old new fault
+inbox_fails begins finds tells kind order old new fault file is lacks =
+    inr (inr (inl (of_config finds (string_bytes order.config) file (λ (config : Config). LacksInbox (bytes_of order.lines.inbox) config fault) is lacks)))

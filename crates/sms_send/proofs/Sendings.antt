@@ -1,11 +1,11 @@
 -- What was sent, or why it wasn't, from a part of the sender to the whole.
-use Rattle.std.proofs.Common.{◌≡◌, ◌∙◌, ◌⊎◌, inl, inr, subst, ◌<◌, ◌≤◌, ◌+◌, arith, ℕ, Bool, List, Option, Some, None, Result, Ok, Err, IfOk, IfErr, OnOk, ap, refl, sym}
+use Rattle.std.proofs.Common.{◌≡◌, ◌∙◌, ◌⊎◌, inl, inr, subst, ◌<◌, ◌≤◌, ◌+◌, arith, ℕ, Bool, List, Option, Some, None, Result, Ok, Err, IfOk, IfErr, refl}
 use Rattle.std.proofs.lemmas.Option.{IfSome_then}
 use Rattle.std.specs.Prelude.{◌≢◌}
 use Rattle.sms_files.specs.Inputs.{Told}
 use Rattle.sms_send.specs.Opened.{OfFile}
 use Rattle.sms_files.specs.Output.{WritesFront}
-use Rattle.sms_send.specs.Sent.{FailsDriving, FailsInputOver, FailsOver, FailsPrinting, FailsWork, IsLate, IsSent, IsUnsentFor, IsWorkDone, PrintsSent, SendingEnd, SendsWork, report_in}
+use Rattle.sms_send.specs.Sent.{FailsDriving, FailsInputOver, FailsOver, FailsPrinting, FailsWork, IsSent, IsUnsentFor, IsWorkDone, PrintsSent, SendingEnd, SendsWork, report_in}
 use Rattle.sms_send.specs.Rounds.{OfARound, most_rounds}
 use Rattle.sms_send.specs.Settings.{AreRunSettings}
 use Rattle.sms_driver.specs.Starts.{TellsStart}

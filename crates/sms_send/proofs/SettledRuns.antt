@@ -1,5 +1,5 @@
 -- A run on a ledger, from how its sending ended and what came back of its credits.
-use Rattle.std.proofs.Common.{◌≡◌, ◌⊎◌, ◌∙◌, inl, inr, refl, sym, subst, ℕ, Bool, List, Option, Some, None, Result, Ok, Err, IfOk, IfErr, IfSome}
+use Rattle.std.proofs.Common.{◌≡◌, ◌⊎◌, ◌∙◌, inl, inr, refl, sym, subst, ℕ, Bool, List, Option, Result, Ok, Err, IfOk, IfErr, IfSome}
 use Rattle.std.proofs.lemmas.Result.{IfErr-weaker, IfOk-weaker}
 use Rattle.std.specs.Prelude.{◌≢◌, ◌<◌, ◌+◌, OnOk, min, string_bytes, true}
 use Rattle.std.specs.declared.io.ErrorKind.{ErrorKind}
@@ -19,6 +19,7 @@ use Rattle.sms_send.specs.LedgerWork.{FailsInPhase}
 use Rattle.sms_send.specs.Noted.{IsNotedIn}
 use Rattle.sms_send.specs.Reached.{centre_in}
 use Rattle.sms_send.specs.Resumed.{FailsGoingOn, FailsPrintingRun, PrintsRun}
+use Rattle.sms_send.specs.Words.{bytes_of}
 use Rattle.sms_send.specs.Sent.{SendsLeft}
 use Rattle.sms_send.specs.declared.args.send_args.ResumeArgs.{ResumeArgs}
 use Rattle.sms_send.specs.declared.sending.target.TargetKind.TheVariants.{Remote}
@@ -129,7 +130,7 @@ module _ {F J : Type 0} (contents : J → Option (List ℕ)) (opens : List ℕ �
   Sends run = SendsLeft (tells (centre_in Remote read.run.config) true) order.again order.strict run old new
 
   abbrev Fails : JournaledRun → Fault → Type 0
-  Fails run = FailsGoingOn (centre_in Remote read.run.config) (tells (centre_in Remote read.run.config) true) order.again order.strict run old new
+  Fails run = FailsGoingOn (bytes_of order.lines.inbox) (centre_in Remote read.run.config) (tells (centre_in Remote read.run.config) true) order.again order.strict run old new
 
   pub goes_with : (sent : Result ℕ Fault) → IsOutWith holds octets ledger read → 0 < count_left read.run.ends.items → IfOk sent (Sends (record read.run { whole = whole })) → IfOk sent (IsNotedIn contents (opens (string_bytes order.journal.name)))
       → IfOk sent (GoesOnWith contents opens tells holds octets ledger order read before old new)

@@ -15,6 +15,7 @@ use Rattle.sms_send.specs.Faults.{ComesAt, IsReadFault, fault_of_input, with_rea
 use Rattle.sms_send.specs.Noted.{FailsBegin, LacksFirstLine}
 use Rattle.sms_send.specs.Reading.{FailsReading, IsFaultOfOctets}
 use Rattle.sms_send.specs.Opened.{FailsOpeningFiles, FailsReadingFile}
+use Rattle.sms_send.specs.Sent.{deaf}
 use Rattle.sms_send.specs.Runs.{FailsReadingOpened, IsUnreadable}
 use Rattle.sms_send.specs.declared.faults.fault.Fault.{Fault}
 use Rattle.std.specs.declared.io.ErrorKind.{ErrorKind}
@@ -32,6 +33,10 @@ unreadable_at b source fault yet (error, is) = subst (ComesAt b) (sym is) yet
 
 pub memory_at : (b : StartPhase) (fault : Fault) → b ≡ Idle → fault ≡ OutOfMemory → ComesAt b fault
 memory_at b fault yet is = subst (ComesAt b) (sym is) (inl yet)
+
+-- a centre of the program's own that can't listen
+pub deaf_at : (b : StartPhase) (fault : Fault) → b ≡ Idle → fault ≡ deaf → ComesAt b fault
+deaf_at b fault yet is = subst (ComesAt b) (sym is) yet
 
 -- a file's octets, or no memory for them
 pub octets_at : (finds : List ℕ → Option Told → Type 0) (b : StartPhase) (name : String Global) (fault : Fault) → b ≡ Idle → (fault ≡ OutOfMemory) ⊎ FailsReadingFile finds name fault → ComesAt b fault

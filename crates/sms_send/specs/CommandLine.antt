@@ -1,26 +1,28 @@
 -- The command line, in the words of the parser, and the job that it asks for.
-use Rattle.std.specs.Prelude.{◌≡◌, ◌≢◌, ◌⊎◌, nat_le, ℕ, String, Bool, true, false, List, [], ◌∷◌, ◌++◌, Option, Some, None, codes, is_some, option_and_then, option_map, if◌then◌else◌}
+use Rattle.std.specs.Prelude.{◌≡◌, ◌≢◌, ◌⊎◌, ℕ, String, Bool, true, false, List, [], ◌∷◌, ◌++◌, Option, Some, None, codes, is_some, option_and_then, option_map, if◌then◌else◌}
 use Rattle.std.specs.Str.{bytes_eq}
 use Rattle.std.specs.String.{string_bytes}
 use Rattle.std.specs.declared.alloc.Global.{Global}
-use Rattle.clap.specs.Words.{App, Kinds, IsAmong, Row, Rule, Text, app_of, fault_of, first_of, new_app, new_rule, subcommand_of, with_rule, with_subcommand}
+use Rattle.clap.specs.Words.{App, Kinds, IsAmong, Row, Rule, Text, app_of, fault_of, first_of, new_app, subcommand_of, with_rule, with_subcommand}
 use Rattle.clap.specs.declared.builder.Command.{Command}
 use Rattle.clap.specs.declared.builder.Command.TheViews.{out-Command as fields_of}
-use Rattle.clap.specs.declared.builder.action.ArgAction.TheVariants.{SetTrue}
 use Rattle.clap.specs.declared.error.kind.ErrorKind.{ErrorKind}
 use Rattle.clap.specs.declared.error.kind.ErrorKind.TheVariants as kind
-use Rattle.sms_core.specs.Decimal.{decimal_in}
 use Rattle.sms_journal.specs.declared.bill.listing.Listing.{Listing}
 use Rattle.sms_journal.specs.declared.bill.listing.Listing.TheVariants.{Bill, Doubtful}
 use Rattle.sms_ledger.specs.Names.{name_said, octets_text}
 use Rattle.sms_ledger.specs.declared.entry.Payment.{Payment}
 use Rattle.sms_send.specs.Faults.{IsWords}
+use Rattle.sms_send.specs.DeliveredWords.{AsksForDelivered, LacksDelivered, delivered_rules}
+use Rattle.sms_send.specs.Lines.{AsksForLines, IsWrongLine, line_rules}
+use Rattle.sms_send.specs.Numbers.{number_in, number_of}
+use Rattle.sms_send.specs.Rules.{file_rule, flag_rule, name_rule, value_rule}
 use Rattle.sms_send.specs.declared.faults.argument_error.NumberOption.{NumberOption}
-use Rattle.sms_send.specs.declared.faults.argument_error.NumberOption.TheVariants.{Again, AgainMs, ConnectMs, Rate, StopAfter}
+use Rattle.sms_send.specs.declared.faults.argument_error.NumberOption.TheVariants.{Again, AgainMs, ConnectMs, Enquire, Rate, Stay, StopAfter}
 use Rattle.sms_send.specs.declared.faults.fault.Fault.{Fault}
 use Rattle.sms_send.specs.declared.faults.fault.Fault.TheVariants.{Words, Help, Version, OutOfMemory}
 use Rattle.sms_send.specs.declared.args.job.Job.{Job}
-use Rattle.sms_send.specs.declared.args.job.Job.TheVariants.{Audit, Balance, Decide, List as Lists, Loop, Plan, Quote, Recover, Replay, Rest, Resume, ResumeOn, Send, SendOn, Settle, Stop, TopUp}
+use Rattle.sms_send.specs.declared.args.job.Job.TheVariants.{Audit, Balance, Decide, Delivered, List as Lists, Loop, Plan, Quote, Recover, Replay, Rest, Resume, ResumeOn, Send, SendOn, Settle, Stop, TopUp}
 use Rattle.sms_send.specs.Words.{bytes_of, file_named, subcommand_named}
 use Rattle.sms_send.specs.declared.args.job.Subcommand.{Subcommand}
 use Rattle.sms_send.specs.declared.args.ledger_args.TopUpArgs.{TopUpArgs}
@@ -45,19 +47,6 @@ with_rules app (rule ∷ rules) = with_rules (with_rule app rule) rules
 -- the command is as this line says; no argument of it is one of its subcommands too
 abbrev pub IsLine : App → Command → Type 0
 IsLine line command = (app_of command ≡ line) × ((fields_of command).has_globals ≡ false)
-
--- a word that has to be given, an option that has to be given a file, one that may be given a value, and one that is given or not
-abbrev pub name_rule : Text → Rule
-name_rule name = record (new_rule name) { required = true }
-
-abbrev pub file_rule : Text → Rule
-file_rule name = record (new_rule name) { long = Some name; value_names = 1; required = true }
-
-abbrev pub value_rule : Text → Rule
-value_rule name = record (new_rule name) { long = Some name; value_names = 1 }
-
-abbrev pub flag_rule : Text → Rule
-flag_rule name = record (new_rule name) { long = Some name; action = Some SetTrue }
 
 -- every subcommand may be asked for the detail lines of a fault, and each that reads messages to read them with references
 abbrev pub verbose_rule : Rule
@@ -91,7 +80,7 @@ abbrev pub config_rules : List Rule
 config_rules = file_rule (codes "config") ∷ value_rule (codes "fields") ∷ flag_rule (codes "quiet") ∷ []
 
 abbrev pub sending_rules : List Rule
-sending_rules = flag_rule (codes "sync") ∷ flag_rule (codes "strict") ∷ refs_rule ∷ verbose_rule ∷ throttle_rules ++ again_rules
+sending_rules = flag_rule (codes "sync") ∷ flag_rule (codes "strict") ∷ refs_rule ∷ verbose_rule ∷ throttle_rules ++ again_rules ++ line_rules
 
 -- `loop --config FILE` or `send --config FILE`, with the other words or without
 abbrev pub sender_line : Text → App
@@ -151,6 +140,10 @@ settle_line = with_rule (with_rules (new_app (codes "settle")) run_rules) verbos
 abbrev pub decide_line : App
 decide_line = with_rule (with_rule (with_rules (new_app (codes "decide")) run_rules) (file_rule (codes "decisions"))) verbose_rule
 
+-- `delivered --config FILE --journal FILE --inbox FILE`, with `--ids HOW` or without
+abbrev pub delivered_line : App
+delivered_line = with_rule (with_rule (with_rules (new_app (codes "delivered")) delivered_rules) refs_rule) verbose_rule
+
 -- the program before its subcommands: it has a version, and its own name is not among the words
 abbrev pub program_line : App
 program_line =
@@ -160,8 +153,8 @@ program_line =
 -- no word, or a subcommand
 abbrev pub command_line : App
 command_line =
-    with_subcommand (with_subcommand (with_subcommand (with_subcommand (with_subcommand (with_subcommand (with_subcommand (with_subcommand (with_subcommand (with_subcommand (with_subcommand (with_subcommand (with_subcommand (with_subcommand (with_subcommand (with_subcommand program_line replay_line.top) plan_line.top) quote_line.top)
-    (send_line (codes "loop")).top) (send_line (codes "send")).top) resume_line.top) stop_line.top) recover_line.top) rest_line.top) bill_line.top) doubtful_line.top) audit_line.top) topup_line.top) balance_line.top) settle_line.top) decide_line.top
+    with_subcommand (with_subcommand (with_subcommand (with_subcommand (with_subcommand (with_subcommand (with_subcommand (with_subcommand (with_subcommand (with_subcommand (with_subcommand (with_subcommand (with_subcommand (with_subcommand (with_subcommand (with_subcommand (with_subcommand program_line replay_line.top) plan_line.top) quote_line.top)
+    (send_line (codes "loop")).top) (send_line (codes "send")).top) resume_line.top) stop_line.top) recover_line.top) rest_line.top) bill_line.top) doubtful_line.top) audit_line.top) topup_line.top) balance_line.top) settle_line.top) decide_line.top) delivered_line.top
 
 -- the subcommand and its matches that the parser reads from the words
 abbrev pub subcommand_in : List Text → Option (Text × List Row)
@@ -175,18 +168,6 @@ refusals_of words = fault_of command_line words
 abbrev pub is_set : Option Text → Bool
 is_set None = false
 is_set (Some value) = bytes_eq value (codes "true")
-
--- the number that a text spells, from 1 to so much
-abbrev pub at_least_one : ℕ → Option ℕ
-at_least_one number = if nat_le 1 number then Some number else None
-
-abbrev pub number_in : ℕ → Text → Option ℕ
-number_in most text = option_and_then at_least_one (decimal_in most text)
-
--- what an option says of a number that needn't be given; nothing where its text spells none in range
-abbrev pub number_of : ℕ → Option Text → Option (Option ℕ)
-number_of most None = Some None
-number_of most (Some text) = option_map (λ number. Some number) (number_in most text)
 
 -- the journal that the matches of a sender ask for
 abbrev pub AsksToNote : List Row → Option JournalFile → Type 0
@@ -215,6 +196,7 @@ pub record AsksToSend (rows : List Row) (order : SendArgs) : Type 0 where
   pub journal : AsksToNote rows order.journal
   pub throttle : HasThrottle rows order.throttle
   pub again : AsksAgain rows order.again
+  pub lines : AsksForLines rows order.lines
   pub strict : is_set (first_of (codes "strict") rows) ≡ order.strict
   pub refs : is_set (first_of (codes "refs") rows) ≡ order.refs
 
@@ -227,6 +209,7 @@ pub record AsksToResume (rows : List Row) (order : ResumeArgs) : Type 0 where
   pub journal : AsksToNote rows (Some order.journal)
   pub throttle : HasThrottle rows order.throttle
   pub again : AsksAgain rows order.again
+  pub lines : AsksForLines rows order.lines
   pub strict : is_set (first_of (codes "strict") rows) ≡ order.strict
   pub refs : is_set (first_of (codes "refs") rows) ≡ order.refs
 
@@ -298,6 +281,7 @@ AsksFor sub.Bill rows (Lists order) = AsksToList Bill rows order
 AsksFor sub.Doubtful rows (Lists order) = AsksToList Doubtful rows order
 AsksFor sub.Audit rows (Audit order) = AsksToAudit rows order
 AsksFor sub.TopUp rows (TopUp order) = AsksToTopUp rows order
+AsksFor sub.Delivered rows (Delivered order) = AsksForDelivered rows order × (is_set (first_of (codes "refs") rows) ≡ order.refs)
 AsksFor sub.Balance rows (Balance ledger) = first_of (codes "ledger") rows ≡ Some (string_bytes ledger)
 AsksFor sub.Settle rows (Settle order) = AsksToSettle rows order
 AsksFor sub.Decide rows (Decide order) = AsksToSettle rows order.run × (first_of (codes "decisions") rows ≡ Some (string_bytes order.decisions))
@@ -324,6 +308,8 @@ IsWrongNumber Rate rows = number_of 100000 (first_of (codes "rate") rows) ≡ No
 IsWrongNumber StopAfter rows = number_of 1000000 (first_of (codes "stop-after") rows) ≡ None
 IsWrongNumber Again rows = number_of 1000000 (first_of (codes "again") rows) ≡ None
 IsWrongNumber AgainMs rows = number_of 600000 (first_of (codes "again-ms") rows) ≡ None
+IsWrongNumber Enquire rows = number_of 3600 (first_of (codes "enquire") rows) ≡ None
+IsWrongNumber Stay rows = number_of 86400 (first_of (codes "stay") rows) ≡ None
 
 -- one of those that bound a sending or its further rounds is
 abbrev pub IsWrongThrottle : List Row → Type 0
@@ -338,7 +324,7 @@ IsWrongPace rows = IsWrongThrottle rows ⊎ IsWrongWait rows
 
 -- what is wrong with the matches of a sender
 abbrev pub AreRefusedArgs : List Row → Type 0
-AreRefusedArgs rows = (first_of (codes "config") rows ≡ None) ⊎ IsWrongSync rows ⊎ IsWrongPace rows
+AreRefusedArgs rows = (first_of (codes "config") rows ≡ None) ⊎ IsWrongSync rows ⊎ IsWrongPace rows ⊎ IsWrongLine rows
 
 -- the name of the config or of the file of this other option is missing
 abbrev pub LacksName : Text → List Row → Type 0
@@ -346,7 +332,7 @@ LacksName other rows = (first_of (codes "config") rows ≡ None) ⊎ (first_of o
 
 -- and of one that goes on with a run
 abbrev pub AreRefusedResumeArgs : List Row → Type 0
-AreRefusedResumeArgs rows = LacksName (codes "journal") rows ⊎ IsWrongPace rows
+AreRefusedResumeArgs rows = LacksName (codes "journal") rows ⊎ IsWrongPace rows ⊎ IsWrongLine rows
 
 -- they ask for no payment, and for no top-up
 abbrev pub IsNoPayment : List Row → Type 0
@@ -378,6 +364,7 @@ IsRefused sub.Bill rows = LacksName (codes "journal") rows
 IsRefused sub.Doubtful rows = LacksName (codes "journal") rows
 IsRefused sub.Audit rows = LacksName (codes "report") rows
 IsRefused sub.TopUp rows = AreRefusedTopUp rows
+IsRefused sub.Delivered rows = LacksDelivered rows
 IsRefused sub.Balance rows = first_of (codes "ledger") rows ≡ None
 IsRefused sub.Settle rows = AreRefusedSettle rows
 IsRefused sub.Decide rows = AreRefusedSettle rows ⊎ (first_of (codes "decisions") rows ≡ None)

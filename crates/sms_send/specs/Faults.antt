@@ -6,7 +6,7 @@ use Rattle.sms_send.specs.declared.faults.argument_error.ArgumentError.{Argument
 use Rattle.sms_send.specs.declared.faults.fault.Fault.{Fault}
 use Rattle.sms_send.specs.declared.faults.ledger_run.Unsettled.{Unsettled as WhyUnsettled}
 use Rattle.sms_send.specs.declared.faults.ledger_run.Unsettled.TheVariants as unsettled
-use Rattle.sms_send.specs.declared.faults.fault.Fault.TheVariants.{Words, Help, Version, File, UnreadFile, Unreadable, BadRecord, NotToml, BadKey, NotFields, BadField, BindRefused, BindFailed, Unconnected, BadNote, BadReport, Unmade, JournalHeld, JournalFree, Unbegun, Journal, Overdrawn, Trial, OtherFile, OtherAttempts, OtherReference, LongSchedule, LedgerFile, Ledger, BadEntry, Payment, Booking, BadDecision, LedgerRun, Unsettled, Output, OutOfMemory, Unreported}
+use Rattle.sms_send.specs.declared.faults.fault.Fault.TheVariants.{Words, Help, Version, File, UnreadFile, Unreadable, BadRecord, NotToml, BadKey, NotFields, BadField, BindRefused, BindFailed, Unconnected, BadNote, BadReport, BadReceived, InboxMode, Unmade, JournalHeld, JournalFree, Unbegun, Journal, Overdrawn, Trial, OtherFile, OtherAttempts, OtherReference, LongSchedule, LedgerFile, Ledger, BadEntry, Payment, Booking, BadDecision, LedgerRun, Unsettled, Output, OutOfMemory, Unreported}
 use Rattle.sms_devices.specs.declared.transport.connecting.Unconnected.{Unconnected as Why}
 use Rattle.sms_devices.specs.declared.journal.failure.JournalFailure.{JournalFailure}
 use Rattle.sms_devices.specs.declared.ledger.failure.LedgerFailure.{LedgerFailure}
@@ -73,6 +73,8 @@ fault_text (BindFailed bind why) = codes "fault: bind " ++ decimal bind ++ codes
 fault_text (Unconnected reason) = codes "fault: bind " ++ decimal reason.bind ++ codes " failed"
 fault_text (BadNote place) = codes "fault: journal record " ++ decimal place
 fault_text (BadReport place) = codes "fault: report record " ++ decimal place
+fault_text (BadReceived place) = codes "fault: inbox record " ++ decimal place
+fault_text InboxMode = codes "fault: config mode"
 fault_text (Unmade name kind) = codes "fault: file " ++ shown (string_bytes name)
 fault_text JournalHeld = codes "fault: journal"
 fault_text JournalFree = codes "fault: journal"
@@ -145,6 +147,8 @@ ComesAt begun (BindRefused bind status) = begun ≡ Idle
 ComesAt begun (BindFailed bind why) = begun ≡ Idle
 ComesAt begun (Unconnected reason) = begun ≡ Idle
 ComesAt begun JournalHeld = begun ≡ Idle
+ComesAt begun (BadReceived place) = begun ≡ Idle
+ComesAt begun InboxMode = begun ≡ Idle
 ComesAt begun (Unmade name kind) = begun ≡ Idle
 ComesAt begun (Unbegun why) = begun ≡ Idle
 ComesAt begun (LedgerFile name kind) = begun ≡ Idle

@@ -5,6 +5,7 @@ use Rattle.sms_devices.specs.Centres.{CentreAt}
 use Rattle.sms_send.specs.Audited.{AuditsBy, FailsAuditJob}
 use Rattle.sms_send.specs.Words.{bytes_of}
 use Rattle.sms_send.specs.ConfigFiles.{OfConfig}
+use Rattle.sms_send.specs.Delivered.{DeliversBy, FailsDelivered}
 use Rattle.sms_send.specs.Faults.{ComesAt}
 use Rattle.sms_files.specs.Fields.{records_of}
 use Rattle.sms_files.specs.Inputs.{Told}
@@ -30,7 +31,7 @@ use Rattle.sms_send.specs.declared.faults.fault.Fault.{Fault}
 use Rattle.sms_send.specs.declared.args.job.Job.{Job}
 use Rattle.sms_send.specs.declared.args.send_args.JournalFile.{JournalFile}
 use Rattle.sms_send.specs.declared.args.send_args.ResumeArgs.{ResumeArgs}
-use Rattle.sms_send.specs.declared.args.job.Job.TheVariants.{Audit, Balance, Decide, List as Lists, Loop, Plan, Quote, Recover, Replay, Rest, Resume, ResumeOn, Send, SendOn, Settle, Stop, TopUp}
+use Rattle.sms_send.specs.declared.args.job.Job.TheVariants.{Audit, Balance, Decide, Delivered, List as Lists, Loop, Plan, Quote, Recover, Replay, Rest, Resume, ResumeOn, Send, SendOn, Settle, Stop, TopUp}
 use Rattle.sms_send.specs.declared.files.run_files.RunFiles.{RunFiles}
 use Rattle.sms_send.specs.declared.sending.target.TargetKind.TheVariants.{Loopback, Remote}
 
@@ -57,6 +58,7 @@ IsStatusOf (SendOn kind ledger order) status = IsStatusBy order.strict status
 IsStatusOf (ResumeOn ledger order) status = IsStatusBy order.strict status
 IsStatusOf (Settle order) status = status ≡ 0
 IsStatusOf (Decide order) status = status ≡ 0
+IsStatusOf (Delivered order) status = status ≡ 0
 
 -- the job was done with this status: standard input or the file of the name was replayed, that file planned, the files that the config names quoted, or sent to the centre that is asked for, or what is left of a run printed, or its
 -- parts, or its schedule; or a ledger's file was used, in a world that says what that is
@@ -79,6 +81,7 @@ Does standard finds tells books (SendOn kind ledger order) old new status = book
 Does standard finds tells books (ResumeOn ledger order) old new status = books (ResumeOn ledger order) old new status
 Does standard finds tells books (Settle order) old new status = books (Settle order) old new status
 Does standard finds tells books (Decide order) old new status = books (Decide order) old new status
+Does standard finds tells books (Delivered order) old new status = DeliversBy finds order old new
 
 -- what standard error has of a job that was done: by a plan whether a quote is open, by a quote what there is to warn of and, at length, its files' full
 -- names, by a recovery whether it is of a trial; by any other nothing (the progress of a sending is written there by threads of its own)
@@ -124,6 +127,7 @@ FailsJob begins refuses holds unbooked standard finds tells (SendOn kind ledger 
 FailsJob begins refuses holds unbooked standard finds tells (ResumeOn ledger order) old new fault = unbooked (ResumeOn ledger order) old new fault
 FailsJob begins refuses holds unbooked standard finds tells (Settle order) old new fault = unbooked (Settle order) old new fault
 FailsJob begins refuses holds unbooked standard finds tells (Decide order) old new fault = unbooked (Decide order) old new fault
+FailsJob begins refuses holds unbooked standard finds tells (Delivered order) old new fault = FailsDelivered holds finds order old new fault
 
 -- the phase of its sending once a job was done: all workers were started, of one that sends
 abbrev pub HasBegun : Job → StartPhase → Type 0

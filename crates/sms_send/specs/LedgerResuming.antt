@@ -1,5 +1,5 @@
 -- What a run of a ledger does that is resumed, and why it isn't.
-use Rattle.std.specs.Prelude.{◌≡◌, ◌⊎◌, ◌<◌, ◌+◌, ℕ, min, Bool, true, false, List, Option, Some, None, Result, Ok, Err, IfErr, IfOk, string_bytes}
+use Rattle.std.specs.Prelude.{◌≡◌, ◌⊎◌, ◌<◌, ◌+◌, ℕ, min, Bool, true, false, List, Option, Result, Ok, Err, IfErr, IfOk, string_bytes}
 use Rattle.std.specs.declared.io.ErrorKind.{ErrorKind}
 use Rattle.sms_devices.specs.Centres.{CentreAt}
 use Rattle.sms_devices.specs.declared.ledger.failure.LedgerFailure.{LedgerFailure}
@@ -126,7 +126,7 @@ FailsGoingWith contents opens tells holds lacks errs octets stored opening is_cl
     FailsOut holds lacks errs octets ledger read fault ⊎ (fault ≡ OutOfMemory)
     ⊎ (IsOutWith holds octets ledger read
     × FailsWith holds lacks errs octets stored opening is_closed ledger read (GoesOnWith contents opens tells holds octets ledger order read before old new)
-    (FailsGoingOn (centre_in Remote read.run.config) (tells (centre_in Remote read.run.config) true) order.again order.strict (run_behind before read.run) old new) old new fault)
+    (FailsGoingOn (bytes_of order.lines.inbox) (centre_in Remote read.run.config) (tells (centre_in Remote read.run.config) true) order.again order.strict (run_behind before read.run) old new) old new fault)
 
 -- ---- the job
 

@@ -23,6 +23,7 @@ use Rattle.sms_send.specs.ConfigFiles.{FailsReadingConfig, OfConfig}
 use Rattle.sms_send.specs.Faults.{IsWords, unsettled_by}
 use Rattle.sms_send.specs.FieldFiles.{AreFieldsAt, FailsFields}
 use Rattle.sms_send.specs.Headed.{FailsMessages, HasMessages}
+use Rattle.sms_send.specs.InboxFiles.{LacksInbox}
 use Rattle.sms_send.specs.Kept.{KeepsThrough}
 use Rattle.sms_send.specs.LedgerJobs.{DoneIn, FailsGivingBackIn, GivesBackIn, LacksNamed, LacksNames}
 use Rattle.sms_send.specs.LedgerRuns.{FailsToStand, RefusesAt, TakesOut}
@@ -206,10 +207,10 @@ FailsOnLedger makes refuses held tells kind holds lacks errs octets stored openi
     ⊎ DoneIn holds opening is_closed ledger (λ first last. FailsBeginOn (FailsHead makes refuses held wanted) errs octets read named strict first last fault)
     ⊎ FailsOnCredits tells kind holds lacks errs octets stored opening is_closed ledger again strict named begun old new fault read.config
 
--- or the config, the fields, the messages or the tariff can't be had
+-- or the config, the fields, the messages or the tariff can't be had, or there is no inbox where one is asked for
 abbrev pub FailsSendOn : {F J : Type 0} → (List ℕ → J → Type 0) → (List ℕ → Type 0) → (List ℕ → Type 0) → (List ℕ → Option Told → Type 0) → (CentreAt → Bool → ℕ → ℕ → Told) → TargetKind → (List ℕ → F → Type 0) → (List ℕ → LedgerFailure → Type 0) → (ErrorKind → Type 0) → (F → Option (List ℕ)) → (F → Option (List ℕ)) → (F → ℕ) → (F → Type 0) → List ℕ → SendArgs → StartPhase → Option (List ℕ) → Option (List ℕ) → Fault → Type 0
 FailsSendOn makes refuses held finds tells kind holds lacks errs octets stored opening is_closed ledger order begun old new fault =
     (IsWords fault × (order.journal ≡ None)) ⊎ (fault ≡ OutOfMemory) ⊎ FailsReadingConfig finds order.config fault ⊎ FailsFields finds (bytes_of order.fields) fault
-    ⊎ OfConfig finds (string_bytes order.config) (λ config. FailsMessages finds config.files fault
+    ⊎ OfConfig finds (string_bytes order.config) (λ config. FailsMessages finds config.files fault ⊎ LacksInbox (bytes_of order.lines.inbox) config fault
     ⊎ (AreFieldsAt finds (bytes_of order.fields) config.fields × (named : NamedFiles) × HasMessages finds config.files named × (read : ConfigFile) × (read.config ≡ config) × (wanted : JournalFile) × (order.journal ≡ Some wanted)
     × FailsOnLedger makes refuses held tells kind holds lacks errs octets stored opening is_closed ledger order.again order.strict read named wanted begun old new fault))

@@ -6,6 +6,12 @@ pub mod FaultReports
 pub mod FullNames
 pub mod Opened
 pub mod Audited
+pub mod Numbers
+pub mod Rules
+pub mod Lines
+pub mod DeliveredWords
+pub mod Delivered
+pub mod InboxFiles
 pub mod CommandLine
 pub mod ConfigFiles
 pub mod Plans

@@ -1,5 +1,5 @@
 -- Whatever was sent is a run of the model.
-use Rattle.std.specs.Prelude.{◌≡◌, ℕ, ◌-◌, ◌^◌, ◌<◌, ◌≤◌, List, length, Option, Some, slice_index_or}
+use Rattle.std.specs.Prelude.{◌≡◌, ℕ, ◌-◌, ◌^◌, ◌<◌, ◌≤◌, length, Option, Some, slice_index_or}
 use Rattle.std.specs.List.{AllByRecursion}
 use Rattle.sms_core.specs.Limits.{most_topped, top_number}
 use Rattle.sms_core.specs.Rows.{no_row, returned_of}

@@ -16,6 +16,7 @@ use Rattle.sms_journal.specs.declared.recovery.resuming.JournaledRun.{JournaledR
 use Rattle.sms_journal.specs.declared.text.header.JournalKind.TheVariants.{Run as OfRun, Trial as OfTrial}
 use Rattle.sms_send.specs.Words.{bytes_of}
 use Rattle.sms_send.specs.FieldFiles.{AreFieldsAt, FailsFields}
+use Rattle.sms_send.specs.InboxFiles.{LacksInbox}
 use Rattle.sms_send.specs.Faults.{ComesAt, output_failed, unreported}
 use Rattle.sms_send.specs.Noted.{FailsNotedWork, IsHeld, IsNotedIn, TakesNoRound}
 use Rattle.sms_send.specs.Reached.{centre_in}
@@ -104,9 +105,9 @@ abbrev pub FailsResuming : CentreAt → (ℕ → ℕ → Told) → Option Again 
 FailsResuming centre tells again strict run old new fault =
     (TakesNoRound fault × (new ≡ old)) ⊎ FailsNotedWork centre tells again strict (Left run) old new fault
 
--- or memory was refused before that
-abbrev pub FailsGoingOn : CentreAt → (ℕ → ℕ → Told) → Option Again → Bool → JournaledRun → Option (List ℕ) → Option (List ℕ) → Fault → Type 0
-FailsGoingOn centre tells again strict run old new fault = ((fault ≡ OutOfMemory) × (new ≡ old)) ⊎ FailsResuming centre tells again strict run old new fault
+-- or memory was refused before that, or there is no inbox where one is asked for
+abbrev pub FailsGoingOn : Option (List ℕ) → CentreAt → (ℕ → ℕ → Told) → Option Again → Bool → JournaledRun → Option (List ℕ) → Option (List ℕ) → Fault → Type 0
+FailsGoingOn inbox centre tells again strict run old new fault = (((fault ≡ OutOfMemory) ⊎ LacksInbox inbox run.config fault) × (new ≡ old)) ⊎ FailsResuming centre tells again strict run old new fault
 
 -- the journal is of a run of a ledger, which goes on with that alone
 abbrev pub IsOfLedger : RunFiles → Fault → Type 0
@@ -124,7 +125,7 @@ abbrev pub FailsResumeJob : (List ℕ → Type 0) → (List ℕ → Type 0) → 
 FailsResumeJob refuses holds finds tells order old new fault =
     ((FailsOpen refuses holds (string_bytes order.journal.name) fault ⊎ FailsJournaled finds order fault) × (new ≡ old))
     ⊎ ((run : JournaledRun) × IsJournaledBy finds order run
-    × (FailsPrintingRun run old new fault ⊎ FailsGoingOn (centre_in Remote run.config) (tells (centre_in Remote run.config) true) order.again order.strict run old new fault))
+    × (FailsPrintingRun run old new fault ⊎ FailsGoingOn (bytes_of order.lines.inbox) (centre_in Remote run.config) (tells (centre_in Remote run.config) true) order.again order.strict run old new fault))
 
 -- a run of which nothing is left starts no worker
 abbrev pub HasBegunResume : StartPhase → Type 0

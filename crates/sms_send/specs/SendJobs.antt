@@ -8,6 +8,7 @@ use Rattle.sms_files.specs.declared.input.Input.{Input}
 use Rattle.sms_send.specs.Words.{bytes_of}
 use Rattle.sms_send.specs.ConfigFiles.{FailsReadingConfig, OfConfig}
 use Rattle.sms_send.specs.FieldFiles.{AreFieldsAt, FailsFields}
+use Rattle.sms_send.specs.InboxFiles.{LacksInbox}
 use Rattle.sms_send.specs.Noted.{FailsNoted}
 use Rattle.sms_send.specs.Reached.{centre_in}
 use Rattle.sms_send.specs.Reading.{IsRead, IsUnread}
@@ -38,8 +39,8 @@ FailsBy begins finds tells kind wanted again strict journal old new fault config
     IsUnread finds (strict || is_some journal) strict config fault
     ⊎ (AreFieldsAt finds wanted config.fields × (input : Input) × IsRead finds (strict || is_some journal) strict config input × FailsInput begins (centre_in kind config) (tells (centre_in kind config)) again strict journal input old new fault)
 
--- by these arguments: the config or the fields can't be read, memory ran out, or it failed so
+-- by these arguments: the config or the fields can't be read, there is no inbox where one is asked for, memory ran out, or it failed so
 abbrev pub FailsSendJob : (JournalFile → Fault → Type 0) → (List ℕ → Option Told → Type 0) → (CentreAt → Bool → ℕ → ℕ → Told) → TargetKind → SendArgs → Option (List ℕ) → Option (List ℕ) → Fault → Type 0
 FailsSendJob begins finds tells kind order old new fault =
     FailsReadingConfig finds order.config fault
-    ⊎ (FailsFields finds (bytes_of order.fields) fault ⊎ OfConfig finds (string_bytes order.config) (FailsBy begins finds tells kind (bytes_of order.fields) order.again order.strict order.journal old new fault))
+    ⊎ (FailsFields finds (bytes_of order.fields) fault ⊎ OfConfig finds (string_bytes order.config) (λ config. LacksInbox (bytes_of order.lines.inbox) config fault) ⊎ OfConfig finds (string_bytes order.config) (FailsBy begins finds tells kind (bytes_of order.fields) order.again order.strict order.journal old new fault))

@@ -3,7 +3,6 @@ use Rattle.std.specs.Prelude.{◌≡◌, ◌≢◌, ◌⊎◌, ◌*◌, ◌++◌
 use Rattle.std.specs.Io.KnownBytes.{Appends}
 use Rattle.std.specs.List.{AllZip}
 use Rattle.sms_book.specs.Openings.{credits_of}
-use Rattle.sms_book.specs.Tariffs.{Price}
 use Rattle.sms_bind.specs.Frames.{AreSame, requests}
 use Rattle.sms_worker.specs.Credit.{IsCovered}
 use Rattle.sms_worker.specs.EndOf.{IsEndOf}
@@ -27,7 +26,7 @@ use Rattle.sms_devices.specs.Centres.CentreAt.{Named, Own}
 use Rattle.sms_devices.specs.declared.gate.GateLimits.{GateLimits}
 use Rattle.sms_send.specs.Faults.{ComesAt, HasLostJournal, HasReason, IsReadFault, fault_of_sending, output_failed, unreported}
 use Rattle.sms_send.specs.Rounds.{IsResumed, IsRun, OfARound, most_rounds}
-use Rattle.sms_send.specs.Settings.{AreRunSettings, AreSettingsOf}
+use Rattle.sms_send.specs.Settings.{AreSettingsOf}
 use Rattle.sms_send.specs.Statuses.{IsStatusBy, status_by}
 use Rattle.sms_files.specs.Output.{WritesFront}
 use Rattle.sms_files.specs.Report.{report_of}
@@ -36,10 +35,7 @@ use Rattle.sms_driver.specs.SendFaults.{IsFaultOfOne}
 use Rattle.sms_driver.specs.Starts.{TellsStart}
 use Rattle.sms_driver.specs.Statements.{AreRows}
 use Rattle.sms_files.specs.declared.config.Config.{Config}
-use Rattle.sms_files.specs.declared.config.Connection.{Connection}
-use Rattle.sms_files.specs.declared.config.Flags.{Flags}
 use Rattle.sms_driver.specs.declared.binding.BindSettings.{BindSettings}
-use Rattle.sms_driver.specs.declared.settings.RunSettings.{RunSettings}
 use Rattle.sms_driver.specs.declared.fault.SendFault.{SendFault}
 use Rattle.sms_driver.specs.declared.fault.BindFailure.TheVariants.{NoConnection}
 use Rattle.sms_driver.specs.declared.start_gate.Command.TheVariants.{Go}
@@ -50,7 +46,6 @@ use Rattle.sms_send.specs.declared.args.send_args.Throttle.{Throttle}
 use Rattle.sms_send.specs.declared.faults.fault.Fault.{Fault}
 use Rattle.sms_send.specs.declared.faults.fault.Fault.TheVariants.{BindFailed}
 use Rattle.sms_files.specs.declared.input.Input.{Input}
-use Rattle.sms_files.specs.declared.config.limits.Limits.{Limits}
 use Rattle.sms_journal.specs.declared.recovery.resuming.JournaledRun.{JournaledRun}
 use Rattle.sms_send.specs.declared.sending.resumed.Resumed.{Resumed as TheResumed}
 use Rattle.sms_send.specs.declared.sending.sender.Ended.{Ended}
@@ -242,8 +237,11 @@ pub record SendingEnd (strict : Bool) (sends : ℕ → Type 0) (fails : Fault �
   pub unwritten : IfErr result (λ fault. fault ≢ output_failed → ¬ HasLostJournal fault → after ≡ before)
 
 -- a centre of the program's own can't listen
+abbrev pub deaf : Fault
+deaf = BindFailed 0 NoConnection
+
 abbrev pub IsDeaf : CentreAt → Fault → Type 0
-IsDeaf (Own bind_status answers) fault = fault ≡ BindFailed 0 NoConnection
+IsDeaf (Own bind_status answers) fault = fault ≡ deaf
 IsDeaf (Named host port) fault = ⊥
 
 -- why what there is wasn't sent to a centre: that can't listen, or the fault of the sending, with the reason of a missing connection

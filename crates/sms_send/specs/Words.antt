@@ -33,7 +33,8 @@ subcommand_named name =
     else (if bytes_eq name (codes "topup") then Some sub.TopUp
     else (if bytes_eq name (codes "balance") then Some sub.Balance
     else (if bytes_eq name (codes "settle") then Some sub.Settle
-    else (if bytes_eq name (codes "decide") then Some sub.Decide else None)))))))))))))))
+    else (if bytes_eq name (codes "decide") then Some sub.Decide
+    else (if bytes_eq name (codes "delivered") then Some sub.Delivered else None))))))))))))))))
 
 -- one of the arguments asks for the detail lines of a fault, also where they are refused
 abbrev pub asks_for_more : List Text → Bool

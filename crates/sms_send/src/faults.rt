@@ -6,6 +6,7 @@ pub mod details;
 pub mod exposed;
 pub mod fault;
 pub mod full_names;
+pub mod inbox;
 pub mod ledger_run;
 pub mod report;
 pub mod unconnected;

@@ -3,6 +3,7 @@
 pub mod config_file;
 pub mod fields_file;
 pub mod headed;
+pub mod inbox_file;
 pub mod named_files;
 pub mod open_input;
 pub mod opened;

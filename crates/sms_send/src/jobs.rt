@@ -2,7 +2,9 @@
 
 pub mod audit_job;
 mod booking;
+mod charged;
 pub mod decide_job;
+pub mod delivered_job;
 mod ledger_end;
 pub mod ledger_job;
 mod ledger_kind;

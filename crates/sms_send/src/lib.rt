@@ -12,12 +12,14 @@ mod program;
 mod sending;
 mod terminal;
 
+pub use args::delivered_args::DeliveredArgs;
 pub use args::job::{Job, job_of};
 pub use args::ledger_args::TopUpArgs;
 pub use args::ledger_run_args::{DecideArgs, SettleArgs};
 pub use args::program_args::ProgramWords;
 pub use args::send_args::{
-    Again, AuditArgs, JournalFile, ListArgs, RecoverArgs, RestArgs, ResumeArgs, SendArgs, Throttle,
+    Again, AuditArgs, JournalFile, LineArgs, ListArgs, RecoverArgs, RestArgs, ResumeArgs, SendArgs,
+    StayArgs, Throttle,
 };
 pub use faults::argument_error::{ArgumentError, NumberOption};
 pub use faults::context::{Address, FaultContext, JobContext, JobKind, JobNames};

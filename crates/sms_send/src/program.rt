@@ -24,6 +24,7 @@ use crate::faults::report::{FaultReport, details_of, fixed_details};
 use crate::files::opened::{InputFiles, open};
 use crate::jobs::audit_job::audit_job;
 use crate::jobs::decide_job::decide_job;
+use crate::jobs::delivered_job::delivered_job;
 use crate::jobs::ledger_job::{balance_job, topup_job};
 use crate::jobs::ledger_resume::ledger_resume_job;
 use crate::jobs::ledger_send::ledger_send_job;
@@ -142,6 +143,7 @@ pub fn do_job<R: FileModes + FullNames + Host + InputFiles + LedgerFiles, W: Wri
         }
         Job::Settle(order) => settle_job(rt, context, order, output),
         Job::Decide(order) => decide_job(rt, context, order, output),
+        Job::Delivered(order) => delivered_job(rt, context, order, output),
     }
 }
 

@@ -8,7 +8,7 @@ ghost use Rattle.sms_files.specs.Output.{WritesFront};
 ghost use Rattle.sms_files.specs.Report.{report_of};
 ghost use Rattle.sms_send.specs.Faults.{output_failed, unreported};
 ghost use Rattle.sms_send.specs.Kept.{KeepsSent};
-ghost use Rattle.sms_send.specs.Sent.{FailsOver, FailsPrinting, FailsSending, HasRows, PrintsSent, SendingEnd, SendsWork, limits_by};
+ghost use Rattle.sms_send.specs.Sent.{FailsOver, FailsPrinting, deaf, FailsSending, HasRows, PrintsSent, SendingEnd, SendsWork, limits_by};
 ghost use Rattle.sms_send.specs.Statuses.{status_by};
 
 pub mod came;
@@ -26,6 +26,7 @@ pub mod work;
 
 use crate::args::send_args::{Again, Throttle};
 use crate::faults::fault::Fault;
+use crate::faults::inbox::tell_unkept;
 use crate::faults::unconnected::reasoned;
 use crate::faults::unsent::report_unsent;
 use crate::sending::interval::Between;
@@ -38,8 +39,8 @@ use crate::sending::target::Target;
 use crate::sending::work::{SentWork, Work, send_work};
 use sms_book::{Opening, Statement};
 use sms_devices::{
-    GateLimits, Host, Journal, LoopDial, Outboxes, Parking, Progress, SendGate, TakesNotices,
-    TcpDial, Terminal,
+    Connects, GateLimits, Host, Journal, JournalFiles, LineSettings, LoopDial, Outboxes, Parking,
+    Progress, SendGate, TakesNotices, TcpDial, Terminal,
 };
 use sms_driver::{BindFailure, Devices, Start};
 use sms_files::Config;
@@ -48,10 +49,11 @@ use sms_worker::{Clock, Pause};
 use std::fs::OpenFile;
 use std::io::Write;
 use std::mem;
+use std::net::TcpListener;
 
 /// How the messages of an input are sent, and what is printed of it.
 #[derive(Drop)]
-pub struct Sending<'r, R> {
+pub struct Sending<'r, 'i, R: JournalFiles> {
     /// The system, or that of a test.
     pub rt: &'r R,
     /// The message centre that they go to.
@@ -62,6 +64,8 @@ pub struct Sending<'r, R> {
     pub again: Option<Again>,
     /// What standard error has of it beside a fault.
     pub remarks: Remarks,
+    /// Where what the message centre says is kept, and when lines are asked.
+    pub lines: LineSettings<'i, R::JournalFile>,
     /// Whether the exit status says that a message was not sent whole.
     pub strict: bool,
 }
@@ -77,6 +81,16 @@ fn gate_limits(config: &Config, throttle: Throttle) -> GateLimits
     }
 }
 
+/// What the program's own test centres listen on.
+fn listening<R: Connects>(rt: &R) -> Result<TcpListener, Fault>
+    ensures refused { IfErr result (λ fault. fault ≡ deaf) }
+{
+    match rt.listen() {
+        Some(listener) => Ok(listener),
+        None => Err(Fault::BindFailed(0, BindFailure::NoConnection)),
+    }
+}
+
 /// Whether the journal of a run has failed, where it has one.
 pub(crate) fn has_failed<F: Write + OpenFile>(journal: Option<&Journal<F>>) -> bool {
     match journal {
@@ -85,7 +99,7 @@ pub(crate) fn has_failed<F: Write + OpenFile>(journal: Option<&Journal<F>>) -> b
     }
 }
 
-impl<'r, R: Host> Sending<'r, R> {
+impl<'r, 'i, R: Host> Sending<'r, 'i, R> {
     /// Connects to the message centre, sends what there is to send, each message noted in the journal if there is
     /// one, and writes the report. Gives the exit status.
     pub fn run<'j, F: Write + OpenFile + Send + Drop, W: Write>(
@@ -118,14 +132,13 @@ impl<'r, R: Host> Sending<'r, R> {
                     connect_ms: self.throttle.connect_ms,
                     host: host.as_str(),
                     port: *port,
+                    lines: self.lines.another(),
                 };
                 let sent = self.send_over(start, work, &outboxes, &dial, &pause, output, kept);
                 reasoned(&outboxes, sent)
             }
             Target::Loopback(bind_status, answers) => {
-                let Some(listener) = rt.listen() else {
-                    return Err(Fault::BindFailed(0, BindFailure::NoConnection));
-                };
+                let listener = listening(rt)?;
                 let dial = LoopDial {
                     rt,
                     alloc: rt.alloc(),
@@ -135,6 +148,7 @@ impl<'r, R: Host> Sending<'r, R> {
                     listener: &listener,
                     bind_status: *bind_status,
                     answers: answers.as_slice(),
+                    lines: self.lines.another(),
                 };
                 let sent = self.send_over(start, work, &outboxes, &dial, &pause, output, kept);
                 reasoned(&outboxes, sent)
@@ -173,7 +187,9 @@ impl<'r, R: Host> Sending<'r, R> {
             work.count(),
             self.remarks.trial,
         );
-        let gate = SendGate::new(rt.alloc(), &*outboxes, clock, &progress, limits);
+        let gate = SendGate::new(rt.alloc(), &*outboxes, clock, &progress, limits).staying(
+            self.lines.stay(),
+        );
         let interval = Between::new(self, work.config(), &*outboxes, &gate, &progress);
         let devices = Devices {
             dial,
@@ -184,6 +200,7 @@ impl<'r, R: Host> Sending<'r, R> {
         let sent = send_work(rt, rt.alloc(), start, work, self.again, &devices, &interval);
         outboxes.flush();
         progress.clear();
+        tell_unkept(rt, self.lines.inbox);
         match sent {
             Ok(sent) => self.print_sent(sent, outboxes, &progress, output, kept),
             Err(fault) => Err(fault),

@@ -2,10 +2,12 @@
 
 ghost use Rattle.std.specs.Prelude.{◌≡◌, false, IfOk, IsOkAnd};
 ghost use Rattle.clap.specs.Words.{AddsSubcommand, App, Rule, app_of, new_app, rule_of, with_rule};
-ghost use Rattle.sms_send.specs.CommandLine.{IsLine, command_line as words_allowed, file_rule, flag_rule, name_rule, throttle_rules, again_rules, config_rules, plan_line, program_line, quote_line, refs_rule, replay_line, resume_line, sender_line, sending_rules, stop_line, value_rule, verbose_rule, with_rules};
+ghost use Rattle.sms_send.specs.CommandLine.{IsLine, command_line as words_allowed, throttle_rules, again_rules, config_rules, plan_line, program_line, quote_line, refs_rule, replay_line, resume_line, sender_line, sending_rules, stop_line, verbose_rule, with_rules};
+ghost use Rattle.sms_send.specs.Rules.{file_rule, flag_rule, name_rule, value_rule};
 
 use crate::args::ledger_commands::{balance_command, topup_command};
 use crate::args::ledger_run_commands::{decide_command, settle_command, with_ledger};
+use crate::args::line_commands::{delivered_command, with_lines};
 use crate::args::run_commands::{
     audit_command, bill_command, doubtful_command, recover_command, rest_command,
 };
@@ -48,7 +50,8 @@ pub fn command_line<'a>(alloc: Global) -> Result<Command<'a>, AllocError>
     let paying = with_subcommand(auditing, topup_command(alloc))?;
     let balancing = with_subcommand(paying, balance_command(alloc))?;
     let settling = with_subcommand(balancing, settle_command(alloc))?;
-    with_subcommand(settling, decide_command(alloc))
+    let deciding = with_subcommand(settling, decide_command(alloc))?;
+    with_subcommand(deciding, delivered_command(alloc))
 }
 
 /// The command with this subcommand too, where there was memory for both.
@@ -257,7 +260,8 @@ fn with_sending<'a>(
     let referred = with_argument(stricter, refs_flag(alloc));
     let told = with_argument(referred, verbose_flag(alloc));
     let throttled = with_throttle(alloc, told);
-    with_again(alloc, throttled)
+    let rounds = with_again(alloc, throttled);
+    with_lines(alloc, rounds)
 }
 
 /// The command with the options of its further rounds too.

@@ -1,23 +1,26 @@
 //! What the command line asks for.
 
-ghost use Rattle.std.specs.Prelude.{◌≡◌, [], None, Some, IfErr, IfOk, OnOk, map, string_bytes};
-ghost use Rattle.clap.specs.Words.{found_of, rows_of, subcommand_rows_of};
+ghost use Rattle.std.specs.Prelude.{◌≡◌, [], None, Some, IfErr, IfOk, OnOk, codes, map, string_bytes};
+ghost use Rattle.clap.specs.Words.{first_of, found_of, rows_of, subcommand_rows_of};
 ghost use Rattle.sms_send.specs.CommandLine.{AreRefusedResumeArgs, AsksFor, AsksToNote, AsksToResume, AsksToSend, IsJob, IsRefused, AreRefusedArgs, IsWrongSync, RefusesFor, RefusesMatch, RefusesWords, refusals_of, subcommand_in};
+ghost use Rattle.sms_send.specs.Lines.{AsksForLines, IsWrongLine};
 ghost use Rattle.sms_send.specs.declared.args.job.Subcommand.TheVariants.{Plan, Quote};
 ghost use Rattle.sms_send.specs.Words.{bytes_of, file_named, subcommand_named as named};
 
 use crate::args::command_line::command_line;
+use crate::args::delivered_args::{DeliveredArgs, delivered_job_of};
 use crate::args::ledger_args::{TopUpArgs, balance_job_of, top_up_job_of};
 use crate::args::ledger_run_args::{
     DecideArgs, SettleArgs, decide_job_of, loop_job_of, resume_job_of, send_job_of, settle_job_of,
 };
+use crate::args::line_args::lines_of;
 use crate::args::pace::pace_of;
 use crate::args::parser_fault::fault_of;
 use crate::args::run_args::{
     audit_job_of, bill_job_of, doubtful_job_of, names_of, recover_job_of, rest_job_of,
 };
 use crate::args::send_args::{
-    AuditArgs, JournalFile, ListArgs, RecoverArgs, RestArgs, ResumeArgs, SendArgs,
+    AuditArgs, JournalFile, LineArgs, ListArgs, RecoverArgs, RestArgs, ResumeArgs, SendArgs,
 };
 use crate::args::values::{is_given, text_given, text_if_given};
 use crate::faults::argument_error::ArgumentError;
@@ -65,6 +68,8 @@ pub enum Job {
     Settle(SettleArgs),
     /// To book in a ledger what was decided of parts in doubt.
     Decide(DecideArgs),
+    /// To print what became of a run's parts, by its inbox.
+    Delivered(DeliveredArgs),
 }
 
 /// What the first word asks for.
@@ -86,6 +91,7 @@ enum Subcommand {
     Balance,
     Settle,
     Decide,
+    Delivered,
 }
 
 /// The job that the words after the program's name ask for.
@@ -158,6 +164,8 @@ fn subcommand_named(name: &str) -> Option<Subcommand>
         Some(Subcommand::Settle)
     } else if name == "decide" {
         Some(Subcommand::Decide)
+    } else if name == "delivered" {
+        Some(Subcommand::Delivered)
     } else {
         None
     }
@@ -192,6 +200,7 @@ fn job_asked(alloc: Global, subcommand: Subcommand, found: &ArgMatches<'_>) -> R
         Subcommand::Balance => balance_job_of(alloc, found),
         Subcommand::Settle => settle_job_of(alloc, found),
         Subcommand::Decide => decide_job_of(alloc, found),
+        Subcommand::Delivered => delivered_job_of(alloc, found),
     }
 }
 
@@ -232,8 +241,8 @@ pub(crate) fn send_args_of(alloc: Global, found: &ArgMatches<'_>) -> Result<Send
         Ok(journal) => journal,
         Err(fault) => return Err(fault),
     };
-    let fields = match text_if_given(alloc, found, "fields") {
-        Ok(fields) => fields,
+    let (fields, lines) = match fields_and_lines(alloc, found) {
+        Ok(both) => both,
         Err(fault) => {
             drop(journal);
             return Err(fault);
@@ -248,12 +257,14 @@ pub(crate) fn send_args_of(alloc: Global, found: &ArgMatches<'_>) -> Result<Send
             journal,
             throttle,
             again,
+            lines,
             strict: is_given(found, "strict"),
             refs: is_given(found, "refs"),
         }),
         Err(fault) => {
             drop(journal);
             drop(fields);
+            drop(lines);
             Err(fault)
         }
     }
@@ -271,8 +282,8 @@ pub(crate) fn resume_args_of(alloc: Global, found: &ArgMatches<'_>) -> Result<Re
     let (quiet, verbose) = (is_given(found, "quiet"), is_given(found, "verbose"));
     let (sync, strict) = (is_given(found, "sync"), is_given(found, "strict"));
     let refs = is_given(found, "refs");
-    let fields = match text_if_given(alloc, found, "fields") {
-        Ok(fields) => fields,
+    let (fields, lines) = match fields_and_lines(alloc, found) {
+        Ok(both) => both,
         Err(fault) => return Err(fault),
     };
     match names_of(alloc, found, "journal") {
@@ -284,9 +295,33 @@ pub(crate) fn resume_args_of(alloc: Global, found: &ArgMatches<'_>) -> Result<Re
             journal: JournalFile { name, sync },
             throttle,
             again,
+            lines,
             strict,
             refs,
         }),
+        Err(fault) => {
+            drop(fields);
+            drop(lines);
+            Err(fault)
+        }
+    }
+}
+
+/// The fields that are asked for, and what is asked of the lines.
+fn fields_and_lines(
+    alloc: Global,
+    found: &ArgMatches<'_>,
+) -> Result<(Option<String>, LineArgs), Fault>
+    ensures fields { IfOk result (λ both. first_of (codes "fields") (rows_of (found_of found.now)) ≡ bytes_of both.0) }
+    ensures lines { IfOk result (λ both. AsksForLines (rows_of (found_of found.now)) both.1) }
+    ensures refused { IfErr result (RefusesFor (IsWrongLine (rows_of (found_of found.now)))) }
+{
+    let fields = match text_if_given(alloc, found, "fields") {
+        Ok(fields) => fields,
+        Err(fault) => return Err(fault),
+    };
+    match lines_of(alloc, found) {
+        Ok(lines) => Ok((fields, lines)),
         Err(fault) => {
             drop(fields);
             Err(fault)

@@ -1,5 +1,6 @@
 //! What the arguments of the subcommands that send, and that look at what was sent, ask for.
 
+use sms_inbox::Ids;
 use sms_journal::Listing;
 
 /// A sending as the command line asks for it.
@@ -19,6 +20,8 @@ pub struct SendArgs {
     pub throttle: Throttle,
     /// How often it goes on in a further round; never without the option.
     pub again: Option<Again>,
+    /// What is asked of its lines.
+    pub lines: LineArgs,
     /// Whether the exit status says that a message was not sent whole.
     pub strict: bool,
     /// Whether the messages have a column `ref`.
@@ -42,6 +45,8 @@ pub struct ResumeArgs {
     pub throttle: Throttle,
     /// How often it goes on in a further round after this one; never without the option.
     pub again: Option<Again>,
+    /// What is asked of its lines.
+    pub lines: LineArgs,
     /// Whether the exit status says that a message was not sent whole.
     pub strict: bool,
     /// Whether the messages have a column `ref`.
@@ -55,6 +60,37 @@ pub struct Again {
     pub most: u32,
     /// How many milliseconds lie before each, 1 to 600,000.
     pub wait_ms: u32,
+}
+
+/// What is asked of the lines of a sending's binds.
+#[derive(Debug, Drop)]
+pub struct LineArgs {
+    /// The file in which what the message centre says is kept; nothing is without the option.
+    pub inbox: Option<String>,
+    /// After how many seconds without an octet a line is asked, 1 to 3,600.
+    pub enquire: Option<u32>,
+    /// How it stays behind the last message; not at all without the option.
+    pub stay: Option<StayArgs>,
+}
+
+/// How a sending stays behind its last message, until the receipts of its parts are there.
+#[derive(Clone, Copy, Debug)]
+pub struct StayArgs {
+    /// For how many seconds at most, 1 to 86,400.
+    pub seconds: u32,
+    /// How the ids in receipts are spelled.
+    pub ids: Ids,
+}
+
+impl LineArgs {
+    /// Nothing is asked of them.
+    pub fn none() -> LineArgs {
+        LineArgs {
+            inbox: None,
+            enquire: None,
+            stay: None,
+        }
+    }
 }
 
 /// The journal that a sending is to write.

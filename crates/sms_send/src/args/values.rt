@@ -3,7 +3,8 @@
 ghost use Rattle.std.specs.Prelude.{◌≡◌, ◌≤◌, None, Some, IfErr, IfOk, map, string_bytes};
 ghost use Rattle.sms_send.specs.declared.faults.fault.Fault.TheVariants.{OutOfMemory};
 ghost use Rattle.clap.specs.Words.{first_of, found_of, rows_of};
-ghost use Rattle.sms_send.specs.CommandLine.{RefusesFor, is_set, number_of};
+ghost use Rattle.sms_send.specs.CommandLine.{RefusesFor, is_set};
+ghost use Rattle.sms_send.specs.Numbers.{number_of};
 ghost use Rattle.sms_send.specs.Words.{asks_for_more, bytes_of};
 
 use crate::faults::argument_error::ArgumentError;

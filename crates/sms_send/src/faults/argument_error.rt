@@ -8,6 +8,8 @@ pub enum NumberOption {
     StopAfter,
     Again,
     AgainMs,
+    Enquire,
+    Stay,
 }
 
 /// Why the arguments are refused.
@@ -33,4 +35,10 @@ pub enum ArgumentError {
     Reference,
     /// `--ledger` was given to a sending without `--journal`.
     LedgerAlone,
+    /// The text of `--ids` says no spelling of ids.
+    Ids,
+    /// `--stay` was given without `--inbox`.
+    StayAlone,
+    /// `--ids` was given to a sending without `--stay`.
+    IdsAlone,
 }

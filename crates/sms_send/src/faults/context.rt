@@ -160,18 +160,13 @@ impl JobContext {
             Job::Send(order) => self.note_sending(alloc, JobKind::Send, order),
             Job::Resume(order) => self.note_resume(alloc, order),
             Job::Stop(journal) => self.names.journal = kept(alloc, journal.as_str()),
-            Job::Recover(order) => {
-                self.names.config = kept(alloc, order.config.as_str());
-                self.names.journal = kept(alloc, order.journal.as_str());
-            }
+            Job::Recover(order) => self.note_run(alloc, &order.config, &order.journal),
             Job::Rest(order) => {
                 self.names.config = kept(alloc, order.config.as_str());
                 self.names.report = kept(alloc, order.report.as_str());
             }
-            Job::List(order) => {
-                self.names.config = kept(alloc, order.config.as_str());
-                self.names.journal = kept(alloc, order.journal.as_str());
-            }
+            Job::List(order) => self.note_run(alloc, &order.config, &order.journal),
+            Job::Delivered(order) => self.note_run(alloc, &order.config, &order.journal),
             Job::Audit(order) => {
                 self.names.config = kept(alloc, order.config.as_str());
                 self.names.report = kept(alloc, order.report.as_str());
@@ -200,6 +195,12 @@ impl JobContext {
             Job::Decide(order) => self.note_settling(alloc, &order.run),
             _ => {}
         }
+    }
+
+    /// Notes the config and the journal of a run.
+    fn note_run(&mut self, alloc: Global, config: &String, journal: &String) {
+        self.names.config = kept(alloc, config.as_str());
+        self.names.journal = kept(alloc, journal.as_str());
     }
 
     /// Notes what they say of a sending.

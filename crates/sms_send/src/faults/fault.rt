@@ -56,6 +56,10 @@ pub enum Fault {
     BadNote(usize),
     /// The record of a report, counted from 1, isn't one that may stand there.
     BadReport(usize),
+    /// The record of an inbox, counted from 1, isn't as one is written.
+    BadReceived(usize),
+    /// An inbox is asked for, and the binds are of a mode in which no deliver_sm comes.
+    InboxMode,
     /// The journal of this name can't be made: the system refused it with an error of this kind.
     Unmade(String, ErrorKind),
     /// A process holds the journal: its run is still going on.
@@ -128,12 +132,12 @@ impl fmt::Display for Fault {
             Fault::Unconnected(reason) => write_failed(f, reason.bind),
             Fault::BadNote(place) => write_record(f, "journal", *place),
             Fault::BadReport(place) => write_record(f, "report", *place),
+            Fault::BadReceived(place) => write_record(f, "inbox", *place),
+            Fault::InboxMode => f.write_str("fault: config mode"),
             Fault::LongSchedule => f.write_str("fault: schedule"),
-            Fault::JournalHeld
-            | Fault::JournalFree
-            | Fault::Unbegun(_)
-            | Fault::Journal(_)
-            | Fault::Overdrawn => f.write_str("fault: journal"),
+            Fault::JournalHeld | Fault::JournalFree => f.write_str("fault: journal"),
+            Fault::Unbegun(_) | Fault::Journal(_) => f.write_str("fault: journal"),
+            Fault::Overdrawn => f.write_str("fault: journal"),
             Fault::Trial => write_trial(f),
             Fault::OtherFile(_) | Fault::OtherAttempts | Fault::OtherReference => {
                 f.write_str("fault: journal record 1")

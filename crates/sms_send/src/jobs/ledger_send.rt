@@ -28,6 +28,7 @@ use crate::faults::fault::Fault;
 use crate::files::config_file::ConfigFile;
 use crate::files::fields_file::read_sending;
 use crate::files::headed::files_with;
+use crate::files::inbox_file::{line_settings, new_inbox};
 use crate::files::named_files::NamedFiles;
 use crate::files::opened::InputFiles;
 use crate::files::plain_files::PlainFiles;
@@ -237,6 +238,7 @@ pub fn ledger_send_job<R: FileModes + Host + InputFiles + LedgerFiles, W: Write>
         journal,
         throttle,
         again,
+        lines,
         strict,
         refs,
     } = order;
@@ -249,29 +251,23 @@ pub fn ledger_send_job<R: FileModes + Host + InputFiles + LedgerFiles, W: Write>
     context.note_ledger_config(rt.alloc(), &read.config);
     let target = Target::new(rt.alloc(), kind, &read.config)?;
     let named = files_with(&files, &read.config.files, Vec::new(rt.alloc()))?;
+    let inbox = new_inbox(rt, &lines, &read.config, wanted.sync)?;
     let sending = Sending {
         rt,
         target,
         throttle,
         again,
         remarks,
+        lines: line_settings(&lines, &inbox, read.config.retry.answer_ms),
         strict,
     };
-    send_on(
-        &sending,
-        start,
-        kind,
-        ledger.as_str(),
-        read,
-        named,
-        &wanted,
-        output,
-    )
+    let name = ledger.as_str();
+    send_on(&sending, start, kind, name, read, named, &wanted, output)
 }
 
 /// The same of a config and messages that were read.
 fn send_on<R: Host + LedgerFiles, W: Write>(
-    sending: &Sending<'_, R>,
+    sending: &Sending<'_, '_, R>,
     start: &mut Start<'_>,
     kind: TargetKind,
     ledger: &str,

@@ -1,6 +1,6 @@
 //! The job of `bill` and `doubtful`: what is listed of a run, by its journal.
 
-ghost use Rattle.std.specs.Prelude.{◌≡◌, ◌≢◌, IfErr, IfOk};
+ghost use Rattle.std.specs.Prelude.{◌≡◌, ◌≢◌, IfErr, IfOk, OnOk, string_bytes};
 ghost use Rattle.sms_send.specs.Faults.{output_failed};
 ghost use Rattle.sms_send.specs.Listed.{FailsAsked, FailsListFree, FailsListJob, FailsListing, ListsAsked, ListsBy, ListsRun};
 
@@ -25,6 +25,7 @@ pub fn list_job<R: AllocGlobal + InputFiles + JournalFiles + Threads, W: Write>(
 ) -> Result<u8, Fault>
     ensures status { IfOk result (λ status. status ≡ 0) }
     ensures listed { IfOk result (λ status. ListsBy (R.finds rt.now) order (W.contents output.old) (W.contents output.new)) }
+    ensures free { OnOk result (R.frees rt.now (string_bytes order.journal)) }
     ensures refused { IfErr result (FailsListJob (R.holds rt.now) (R.finds rt.now) order (W.contents output.old) (W.contents output.new)) }
     ensures unwritten { IfErr result (λ fault. fault ≢ output_failed → output.new ≡ output.old) }
 {

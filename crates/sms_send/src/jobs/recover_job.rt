@@ -43,6 +43,7 @@ pub fn recover_job<R: AllocGlobal + InputFiles + JournalFiles + Threads, W: Writ
     ensures recovered { IfOk result (RecoversBy (sees order.refs (R.finds rt.now)) order (W.contents output.old) (W.contents output.new)) }
     ensures status { IfOk result IsStatus }
     ensures beside { OnOk result (RecoversAndWarns (sees order.refs (R.finds rt.now)) order (W.contents output.old) (W.contents output.new) (E.contents error.old) (E.contents error.new)) }
+    ensures free { OnOk result (R.frees rt.now (string_bytes order.journal)) }
     ensures refused { IfErr result (FailsRecoverJob (R.holds rt.now) (sees order.refs (R.finds rt.now)) order (W.contents output.old) (W.contents output.new)) }
     ensures told { WritesFront (E.contents error.old) (E.contents error.new) trial_line }
     ensures unwritten { IfErr result (λ fault. fault ≢ output_failed → (output.new ≡ output.old) × (error.new ≡ error.old)) }

@@ -22,6 +22,7 @@ use crate::faults::exposed::FileModes;
 use crate::faults::fault::Fault;
 use crate::faults::ledger_run::LedgerRunFlaw;
 use crate::files::fields_file::read_fields;
+use crate::files::inbox_file::{inbox_going_on, line_settings};
 use crate::files::opened::InputFiles;
 use crate::files::plain_files::PlainFiles;
 use crate::files::run_files::{RunFiles, read_warned_run};
@@ -87,7 +88,7 @@ pub(crate) fn noted_run<R: AllocGlobal + Threads>(
 }
 
 /// What the journal says of the run of these files, by a config of this name. One of a trial is refused.
-fn journaled<R: AllocGlobal + Threads>(
+pub(crate) fn journaled<R: AllocGlobal + Threads>(
     rt: &R,
     name: &str,
     files: &RunFiles,
@@ -200,13 +201,21 @@ pub(crate) fn resume_run<R: FileModes + Host + InputFiles, W: Write>(
     requires port { run.config.connection.port ≤ 65535 }
     requires opened { R.opens rt.now (string_bytes order.now.journal.name) held }
     ensures latch { start.new.latch ≡ start.old.latch }
-    ensures ended { SendingEnd order.now.strict (SendsLeft (R.tells rt.now (centre_in Remote run.config) true) order.now.again order.now.strict run (W.contents output.old) (W.contents output.new)) (FailsGoingOn (centre_in Remote run.config) (R.tells rt.now (centre_in Remote run.config) true) order.now.again order.now.strict run (W.contents output.old) (W.contents output.new)) start.new.begun output.old output.new result }
+    ensures ended { SendingEnd order.now.strict (SendsLeft (R.tells rt.now (centre_in Remote run.config) true) order.now.again order.now.strict run (W.contents output.old) (W.contents output.new)) (FailsGoingOn (bytes_of order.now.lines.inbox) (centre_in Remote run.config) (R.tells rt.now (centre_in Remote run.config) true) order.now.again order.now.strict run (W.contents output.old) (W.contents output.new)) start.new.begun output.old output.new result }
     ensures noted { IfOk result (IsNotedIn R.JournalFile.contents (R.opens rt.now (string_bytes order.now.journal.name))) }
     ensures kept { KeepsThrough (W.contents output.old) (W.contents output.new) result kept.new }
 {
     *kept = None;
     let target = match Target::new(rt.alloc(), TargetKind::Remote, &run.config) {
         Ok(target) => target,
+        Err(fault) => {
+            drop(run);
+            drop(held);
+            return Err(fault);
+        }
+    };
+    let inbox = match inbox_going_on(rt, &order.lines, &run.config, order.journal.sync) {
+        Ok(inbox) => inbox,
         Err(fault) => {
             drop(run);
             drop(held);
@@ -225,6 +234,7 @@ pub(crate) fn resume_run<R: FileModes + Host + InputFiles, W: Write>(
             rt.has_details(),
             false,
         ),
+        lines: line_settings(&order.lines, &inbox, run.config.retry.answer_ms),
         strict: order.strict,
     };
     sending.resume_in_file::<Brand, W>(start, run, held, &order.journal, output, kept)

@@ -1,6 +1,6 @@
 //! The job of `loop` and `send`: the files that the config names are opened and read, and sent.
 
-ghost use Rattle.std.specs.Prelude.{◌≡◌, ◌≢◌, IfErr, IfOk, OnOk, is_some, option_map, string_bytes};
+ghost use Rattle.std.specs.Prelude.{◌≡◌, ◌≢◌, ◌≤◌, IfErr, IfOk, OnOk, is_some, option_map, string_bytes};
 ghost use Rattle.sms_driver.specs.declared.start_gate.Command.TheVariants.{Go};
 ghost use Rattle.sms_driver.specs.declared.start.StartPhase.TheVariants.{Idle, Released};
 ghost use Rattle.sms_send.specs.Words.{bytes_of};
@@ -8,15 +8,17 @@ ghost use Rattle.sms_send.specs.ConfigFiles.{OfConfig};
 ghost use Rattle.sms_send.specs.Faults.{ComesAt, output_failed};
 ghost use Rattle.sms_send.specs.Noted.{FailsBegin, NotesEnd};
 ghost use Rattle.sms_send.specs.PlainFiles.{sees};
+ghost use Rattle.sms_send.specs.Reached.{centre_in, centre_of};
 ghost use Rattle.sms_send.specs.SendJobs.{FailsSendJob, SendsBy};
 ghost use Rattle.sms_send.specs.Sent.{FailsSender, RunsSender, SendingEnd};
+ghost use Rattle.sms_send.specs.declared.faults.fault.Fault.TheVariants.{OutOfMemory};
 
-use crate::args::send_args::SendArgs;
+use crate::args::send_args::{JournalFile, SendArgs};
 use crate::faults::context::JobContext;
 use crate::faults::exposed::FileModes;
 use crate::faults::fault::Fault;
-use crate::files::config_file::ConfigFile;
 use crate::files::fields_file::read_sending;
+use crate::files::inbox_file::{line_settings, new_inbox};
 use crate::files::open_input::open_input;
 use crate::files::opened::InputFiles;
 use crate::files::plain_files::PlainFiles;
@@ -29,6 +31,7 @@ use crate::sending::target::{Target, TargetKind};
 use crate::sending::work::Work;
 use sms_devices::{Host, MadeFile};
 use sms_driver::{Dial, Start};
+use sms_files::Config;
 use sms_worker::{Clock, Gate, Pause};
 use std::alloc::Global;
 use std::io::{Read, Write};
@@ -80,6 +83,29 @@ pub fn run_sender<
     Ok(ended.exit_status(strict))
 }
 
+/// What such a sending has of its centre, by a config that is noted.
+fn noted_target(
+    alloc: Global,
+    context: &mut JobContext,
+    kind: TargetKind,
+    config: &Config,
+) -> Result<Target, Fault>
+    requires port { config.now.connection.port ≤ 65535 }
+    ensures centre { IfOk result (λ target. centre_of target ≡ centre_in kind config.now) }
+    ensures refused { IfErr result (λ fault. fault ≡ OutOfMemory) }
+{
+    context.note_config(alloc, config);
+    Target::new(alloc, kind, config)
+}
+
+/// Whether the disk is to have what is noted, and what is kept.
+fn is_synced(journal: &Option<JournalFile>) -> bool {
+    match journal {
+        Some(journal) => journal.sync,
+        None => false,
+    }
+}
+
 /// Reads the config of this name and the files that it names, and sends. With a journal the files are read to
 /// their ends first, and what goes out is noted.
 pub fn send_job<R: FileModes + Host + InputFiles, W: Write>(
@@ -104,23 +130,23 @@ pub fn send_job<R: FileModes + Host + InputFiles, W: Write>(
         journal,
         throttle,
         again,
+        lines,
         strict,
         refs,
     } = order;
-    let files = PlainFiles { rt, refs };
-    let trial = kind == TargetKind::Loopback;
+    let (files, trial) = (PlainFiles { rt, refs }, kind == TargetKind::Loopback);
     let remarks = Remarks::new(quiet, verbose, rt.is_terminal(), rt.has_details(), trial);
     let read = read_sending(&files, config, &fields, remarks.at_length)?;
-    context.note_config(rt.alloc(), &read.config);
-    let target = Target::new(rt.alloc(), kind, &read.config)?;
-    let ConfigFile { octets, config } = read;
-    let opened = open_input(&files, config)?;
+    let target = noted_target(rt.alloc(), context, kind, &read.config)?;
+    let inbox = new_inbox(rt, &lines, &read.config, is_synced(&journal))?;
+    let opened = open_input(&files, read.config)?;
     let sending = Sending {
         rt,
         target,
         throttle,
         again,
         remarks,
+        lines: line_settings(&lines, &inbox, opened.config.retry.answer_ms),
         strict,
     };
     match journal {
@@ -130,7 +156,7 @@ pub fn send_job<R: FileModes + Host + InputFiles, W: Write>(
             sending.run::<MadeFile<R::JournalFile, Brand>, W>(start, work, None, output, &mut kept)
         }
         Some(wanted) => {
-            let noted = read_noted(rt, rt.alloc(), octets.as_slice(), opened, strict)?;
+            let noted = read_noted(rt, rt.alloc(), read.octets.as_slice(), opened, strict)?;
             sending.run_noted(start, noted.input, &noted.digests, wanted, output)
         }
     }

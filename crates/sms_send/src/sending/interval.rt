@@ -56,7 +56,7 @@ fn ended_of(ends: &[MessageEnd]) -> Tally {
 impl<'x, 'j, R: Host, F: Write + OpenFile> Between<'x, 'j, R, F> {
     /// Between the rounds of this sending.
     pub fn new(
-        sending: &'j Sending<'_, R>,
+        sending: &'j Sending<'_, '_, R>,
         config: &Config,
         outboxes: &'x Outboxes<'j, R, F>,
         gate: &'x GateOf<'x, 'j, R, F>,

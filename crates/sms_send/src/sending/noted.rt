@@ -176,7 +176,7 @@ fn end_journal<R: Clock, F: Write + OpenFile + Drop, O: Origin<F>>(
     }
 }
 
-impl<'r, R: Host> Sending<'r, R> {
+impl<'r, 'i, R: Host> Sending<'r, 'i, R> {
     /// Makes the journal of files with these digests, and sends the messages of an input.
     pub fn run_noted<W: Write>(
         &self,

@@ -18,11 +18,16 @@ pub trait RoundDial: Dial + Drop {
         ensures { result ≡ of_round self.now round };
 }
 
-impl<'r, 'j, R: Connects + Clock + Sync, F: Write + OpenFile + Send + Drop> RoundDial
-    for TcpDial<'r, 'j, R, F> {
+impl<
+    'r,
+    'j,
+    R: Connects + Clock + Sync,
+    F: Write + OpenFile + Send + Drop,
+    I: Write + OpenFile + Send + Drop,
+> RoundDial for TcpDial<'r, 'j, R, F, I> {
     ghost of_round = { λ d n. record d { round = n } };
 
-    fn in_round(&self, round: u64) -> TcpDial<'r, 'j, R, F> {
+    fn in_round(&self, round: u64) -> TcpDial<'r, 'j, R, F, I> {
         TcpDial {
             rt: self.rt,
             alloc: self.alloc,
@@ -31,15 +36,21 @@ impl<'r, 'j, R: Connects + Clock + Sync, F: Write + OpenFile + Send + Drop> Roun
             connect_ms: self.connect_ms,
             host: self.host,
             port: self.port,
+            lines: self.lines.another(),
         }
     }
 }
 
-impl<'r, 'j, R: Connects + Clock + Sync, F: Write + OpenFile + Send + Drop> RoundDial
-    for LoopDial<'r, 'j, R, F> {
+impl<
+    'r,
+    'j,
+    R: Connects + Clock + Sync,
+    F: Write + OpenFile + Send + Drop,
+    I: Write + OpenFile + Send + Drop,
+> RoundDial for LoopDial<'r, 'j, R, F, I> {
     ghost of_round = { λ d n. record d { round = n } };
 
-    fn in_round(&self, round: u64) -> LoopDial<'r, 'j, R, F> {
+    fn in_round(&self, round: u64) -> LoopDial<'r, 'j, R, F, I> {
         LoopDial {
             rt: self.rt,
             alloc: self.alloc,
@@ -49,6 +60,7 @@ impl<'r, 'j, R: Connects + Clock + Sync, F: Write + OpenFile + Send + Drop> Roun
             listener: self.listener,
             bind_status: self.bind_status,
             answers: self.answers,
+            lines: self.lines.another(),
         }
     }
 }

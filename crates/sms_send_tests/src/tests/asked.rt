@@ -37,6 +37,7 @@ fn called(job: &Job) -> &str {
         Job::ResumeOn(_, _) => "resumption on ",
         Job::Settle(_) => "settlement of ",
         Job::Decide(_) => "decisions of ",
+        Job::Delivered(_) => "deliveries of ",
     }
 }
 
@@ -58,6 +59,7 @@ fn file_of(job: &Job) -> &str {
         Job::SendOn(_, ledger, _) | Job::ResumeOn(ledger, _) => ledger.as_str(),
         Job::Settle(order) => order.journal.as_str(),
         Job::Decide(order) => order.decisions.as_str(),
+        Job::Delivered(order) => order.inbox.as_str(),
     }
 }
 

@@ -5,8 +5,8 @@ use super::told::told_of;
 use sms_devices::{Host, LedgerFiles};
 use sms_driver::{Start, StartGate};
 use sms_send::{
-    Fault, FileModes, FullNames, InputFiles, Job, JobContext, JournalFile, RecoverArgs, SendArgs,
-    Throttle, do_job,
+    Fault, FileModes, FullNames, InputFiles, Job, JobContext, JournalFile, LineArgs, RecoverArgs,
+    SendArgs, Throttle, do_job,
 };
 use std::alloc::{AllocError, Global};
 use std::fs::{self, OpenOptions};
@@ -47,6 +47,7 @@ fn noted_job(alloc: Global) -> Result<Job, AllocError> {
             stop_after: None,
         },
         again: None,
+        lines: LineArgs::none(),
         strict: false,
         refs: false,
     }))

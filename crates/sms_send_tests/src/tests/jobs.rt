@@ -4,7 +4,7 @@ use super::broken::{FailingInput, FailingOutput};
 use super::same::same;
 use super::told::told_of;
 use sms_driver::{Start, StartGate};
-use sms_send::{Fault, Job, JobContext, SendArgs, Throttle, do_job, run_replay};
+use sms_send::{Fault, Job, JobContext, LineArgs, SendArgs, Throttle, do_job, run_replay};
 use std::alloc::Global;
 use std::io::{Read, Write};
 use std::process::Abort;
@@ -156,6 +156,7 @@ fn quiet_order(config: String) -> SendArgs {
         journal: None,
         throttle: UNBOUND,
         again: None,
+        lines: LineArgs::none(),
         strict: false,
         refs: false,
     }

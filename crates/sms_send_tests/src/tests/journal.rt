@@ -4,7 +4,9 @@ use super::broken::FailingOutput;
 use super::same::same;
 use super::told::told_of;
 use sms_driver::{Start, StartGate};
-use sms_send::{Fault, Job, JobContext, JournalFile, RecoverArgs, SendArgs, Throttle, do_job};
+use sms_send::{
+    Fault, Job, JobContext, JournalFile, LineArgs, RecoverArgs, SendArgs, Throttle, do_job,
+};
 use std::alloc::{AllocError, Global};
 use std::fs;
 use std::process::Abort;
@@ -46,6 +48,7 @@ fn noted_job(alloc: Global) -> Result<Job, AllocError> {
             stop_after: None,
         },
         again: None,
+        lines: LineArgs::none(),
         strict: false,
         refs: false,
     }))

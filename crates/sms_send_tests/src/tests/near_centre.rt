@@ -7,8 +7,8 @@ use sms_devices::{Connects, Host, LedgerFiles};
 use sms_driver::{Start, StartGate};
 use sms_pdu::Tap;
 use sms_send::{
-    Again, Fault, FileModes, FullNames, InputFiles, Job, JobContext, JournalFile, RecoverArgs,
-    ResumeArgs, SendArgs, Throttle, do_job,
+    Again, Fault, FileModes, FullNames, InputFiles, Job, JobContext, JournalFile, LineArgs,
+    RecoverArgs, ResumeArgs, SendArgs, Throttle, do_job,
 };
 use std::alloc::{AllocError, Global};
 use std::fs;
@@ -193,6 +193,7 @@ pub fn send_job(alloc: Global, names: &Names, again: Option<Again>) -> Result<Jo
         journal: Some(journal),
         throttle: UNBOUND,
         again,
+        lines: LineArgs::none(),
         strict: false,
         refs: false,
     }))
@@ -212,6 +213,7 @@ pub fn resume_job(alloc: Global, names: &Names, again: Option<Again>) -> Result<
         journal,
         throttle: UNBOUND,
         again,
+        lines: LineArgs::none(),
         strict: false,
         refs: false,
     }))

@@ -6,7 +6,8 @@ use super::near_centre::{
 use super::same::same;
 use sms_devices::{Host, LedgerFiles};
 use sms_send::{
-    AuditArgs, FileModes, FullNames, InputFiles, Job, JournalFile, RestArgs, SendArgs, Throttle,
+    AuditArgs, FileModes, FullNames, InputFiles, Job, JournalFile, LineArgs, RestArgs, SendArgs,
+    Throttle,
 };
 use std::alloc::{AllocError, Global};
 use std::fs;
@@ -77,6 +78,7 @@ fn job_of(alloc: Global, word: &str, refs: bool) -> Result<Job, AllocError> {
             }),
             throttle: UNBOUND,
             again: None,
+            lines: LineArgs::none(),
             strict: true,
             refs,
         }),

@@ -2,7 +2,7 @@
 
 use super::same::same;
 use sms_driver::{Start, StartGate};
-use sms_send::{Again, Fault, Job, JobContext, SendArgs, Throttle, do_job};
+use sms_send::{Again, Fault, Job, JobContext, LineArgs, SendArgs, Throttle, do_job};
 use std::alloc::{AllocError, Global};
 use std::fs;
 use std::process::Abort;
@@ -76,6 +76,7 @@ fn job_again(alloc: Global, most: u32) -> Result<Job, AllocError> {
             stop_after: None,
         },
         again: Some(Again { most, wait_ms: 1 }),
+        lines: LineArgs::none(),
         strict: false,
         refs: false,
     }))

@@ -3,6 +3,7 @@
 
 ghost use Rattle.std.specs.Prelude.{◌≤◌, length, IfSome};
 
+use sms_bind::Plain;
 use sms_centre::{Centre, Fuse, Script};
 use sms_driver::Dial;
 use sms_pdu::{Frame, Framer, UNBIND, UNBIND_RESP, drop_front};
@@ -240,14 +241,14 @@ impl<'a, S: Wait> Beside<'a, S> {
 }
 
 impl<'a, S: Wait + Sync> Dial for Beside<'a, S> {
-    type Reader = Fuse<Near<'a, S>>;
+    type Reader = Plain<Fuse<Near<'a, S>>>;
 
     type Writer = Fuse<Near<'a, S>>;
 
-    fn dial(&self, bind: u32) -> Option<(Fuse<Near<'a, S>>, Fuse<Near<'a, S>>)> {
-        let reader = Fuse::new(self.near(bind), self.reads);
+    fn dial(&self, bind: u32) -> Option<(Plain<Fuse<Near<'a, S>>>, Fuse<Near<'a, S>>)> {
+        let input = Fuse::new(self.near(bind), self.reads);
         let writer = Fuse::new(self.near(bind), self.writes);
-        Some((reader, writer))
+        Some((Plain { input }, writer))
     }
 }
 

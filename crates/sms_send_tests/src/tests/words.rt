@@ -8,7 +8,7 @@ use std::process::Abort;
 use std::test::Fail;
 
 /// Words, and the file of the job, or the text of the fault.
-const READ: [(&str, &str); 113] = [
+const READ: [(&str, &str); 125] = [
     ("", "standard input"),
     ("replay -", "standard input"),
     ("replay events.csv", "events.csv"),
@@ -146,6 +146,39 @@ const READ: [(&str, &str); 113] = [
         "decisions of d",
     ),
     ("decide --ledger l --config c --journal j", "fault: words"),
+    (
+        "delivered --config c --journal j --inbox i",
+        "deliveries of i",
+    ),
+    (
+        "delivered --config c --journal j --inbox i --ids dec-hex --refs",
+        "deliveries of i",
+    ),
+    (
+        "delivered --config c --journal j --inbox i --ids hex",
+        "fault: words",
+    ),
+    ("delivered --config c --journal j", "fault: words"),
+    ("send --config c --inbox i --enquire 3600", "send of c"),
+    ("loop --config c --enquire 0", "fault: words"),
+    (
+        "resume --config c --journal j --inbox=i --enquire=60",
+        "resumption of j",
+    ),
+    (
+        "resume --config c --journal j --enquire 3601",
+        "fault: words",
+    ),
+    (
+        "send --config c --inbox i --stay 86400 --ids hex-dec",
+        "send of c",
+    ),
+    ("send --config c --stay 60", "fault: words"),
+    ("loop --config c --inbox i --ids hex-dec", "fault: words"),
+    (
+        "resume --config c --journal j --inbox i --stay 86401",
+        "fault: words",
+    ),
 ];
 
 /// The words of a line.

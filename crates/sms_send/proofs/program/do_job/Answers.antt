@@ -119,6 +119,9 @@ returns-in-Settle-clause-unwritten g c = quiet_too c.settle_job.result _ c.settl
 pub returns-in-Decide-clause-unwritten : goal.returns-in-Decide-clause-unwritten
 returns-in-Decide-clause-unwritten g c = quiet_too c.decide_job.result _ c.decide_job.ensures.unwritten
 
+pub returns-in-Delivered-clause-unwritten : goal.returns-in-Delivered-clause-unwritten
+returns-in-Delivered-clause-unwritten g c = quiet_too c.delivered_job.result _ c.delivered_job.ensures.unwritten
+
 pub returns-in-SendOn-clause-started : goal.returns-in-SendOn-clause-started
 returns-in-SendOn-clause-started g c = rw c.in-SendOn.is c.ledger_send_job.ensures.started
 

@@ -19,6 +19,9 @@ pub(crate) fn write_argument_error(
         ArgumentError::Credits => "CREDITS is a whole number from 1 to 1099511627776",
         ArgumentError::Reference => "--ref takes a name of 1 to 192 characters",
         ArgumentError::LedgerAlone => "--ledger needs --journal FILE",
+        ArgumentError::Ids => "--ids takes hex-dec or dec-hex",
+        ArgumentError::StayAlone => "--stay needs --inbox FILE",
+        ArgumentError::IdsAlone => "--ids needs --stay S",
     })
 }
 
@@ -30,5 +33,7 @@ fn range_of(option: NumberOption) -> &'static str {
         NumberOption::StopAfter => "--stop-after takes a whole number from 1 to 1000000",
         NumberOption::Again => "--again takes a whole number from 1 to 1000000",
         NumberOption::AgainMs => "--again-ms takes a whole number from 1 to 600000",
+        NumberOption::Enquire => "--enquire takes a whole number from 1 to 3600",
+        NumberOption::Stay => "--stay takes a whole number from 1 to 86400",
     }
 }

@@ -28,13 +28,15 @@ pub(crate) fn reading_text(kind: ErrorKind) -> &'static str {
     }
 }
 
-/// Why the file of a journal can't be made, by the system's error.
+/// Why the file of a journal or of an inbox can't be made, by the system's error.
 pub(crate) fn making_text(kind: ErrorKind) -> &'static str {
     match kind {
         ErrorKind::NotFound => "its folder doesn't exist",
         ErrorKind::NotADirectory => "what should be its folder is a file",
         ErrorKind::PermissionDenied => "this user isn't permitted to make it",
         ErrorKind::AlreadyExists => "it exists already, and a journal is always a new file",
+        // (no error of the system's: it was looked into)
+        ErrorKind::InvalidData => "it isn't empty, and an inbox is a new file or an empty one",
         ErrorKind::InvalidFilename => "the system takes no such name",
         ErrorKind::ReadOnlyFilesystem => "its file system is read-only",
         ErrorKind::StorageFull => "no space left on the device",

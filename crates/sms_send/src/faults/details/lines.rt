@@ -18,6 +18,9 @@ use crate::faults::full_names::FullNames;
 use crate::faults::ledger_run::LedgerRunFlaw;
 use std::alloc::AllocError;
 
+/// What an inbox needs of the config.
+const INBOX_MODE: &str = "--inbox needs mode = \"transceiver\": a transmitter is sent no receipts";
+
 /// The detail line of a fault that always has the same one; empty where it has another. It takes no memory.
 pub(crate) fn fixed_text(fault: &Fault) -> &'static str {
     match fault {
@@ -82,6 +85,8 @@ pub(crate) fn write_lines<R: AllocGlobal + FullNames>(
         }
         Fault::BadNote(place) => write_note(text, &job.names.journal, *place),
         Fault::BadReport(place) => write_report_record(text, &job.names.report, *place),
+        Fault::InboxMode => text.push_str(INBOX_MODE),
+        Fault::BadReceived(_) => text.push_str("it isn't as a record of an inbox is written"),
         Fault::Unmade(_, kind) => text.push_str(making_text(*kind)),
         Fault::Unbegun(why) => write_unbegun(text, job, *why),
         Fault::Journal(why) => write_unnoted(text, job, *why),

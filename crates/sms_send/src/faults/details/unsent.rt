@@ -91,6 +91,7 @@ fn reader_text(cause: ReaderCause, ender: Ender) -> &'static str {
         ReaderCause::Stopped(_) | ReaderCause::Unstarted => "was stopped",
         ReaderCause::Turns => "took too many turns",
         ReaderCause::OutOfMemory => "ran out of memory",
+        ReaderCause::Silent => "was silent when it was asked whether it is alive",
     }
 }
 

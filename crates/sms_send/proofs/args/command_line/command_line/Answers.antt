@@ -1,7 +1,7 @@
 use Rattle.std.proofs.Common.{codes, ◌≡◌}
 use Rattle.std.proofs.lemmas.Result.{IfOk-weaker}
 use Rattle.clap.specs.Words.{App, app_of, with_subcommand}
-use Rattle.sms_send.specs.CommandLine.{audit_line, balance_line, bill_line, doubtful_line, plan_line, program_line, quote_line, recover_line, replay_line, rest_line, resume_line, send_line, settle_line, stop_line, topup_line}
+use Rattle.sms_send.specs.CommandLine.{audit_line, balance_line, bill_line, decide_line, doubtful_line, plan_line, program_line, quote_line, recover_line, replay_line, rest_line, resume_line, send_line, settle_line, stop_line, topup_line}
 use Rattle.sms_send.proofs.JobsDone.{subcommand-added}
 use Rattle.sms_send.proofs.args.command_line.command_line.Goals as goal
 
@@ -24,6 +24,10 @@ listing_line = with_subcommand (with_subcommand left_line bill_line.top) doubtfu
 -- and with the one that pays
 abbrev paying_line : App
 paying_line = with_subcommand (with_subcommand listing_line audit_line.top) topup_line.top
+
+-- and with those that say what a ledger has, and give back to it
+abbrev settling_line : App
+settling_line = with_subcommand (with_subcommand paying_line balance_line.top) settle_line.top
 
 pub returns : goal.returns
 returns c =
@@ -55,6 +59,8 @@ returns c =
     subcommand-added _ _ _ _ c.topup_command.result c.in_ok-paying.ensures c.topup_command.ensures auditing in
     let balancing : app_of c.in_ok-balancing.balancing ≡ with_subcommand paying_line balance_line.top =
     subcommand-added _ _ _ _ c.balance_command.result c.in_ok-balancing.ensures c.balance_command.ensures paying in
-    let settling : app_of c.in_ok-settling.settling ≡ with_subcommand (with_subcommand paying_line balance_line.top) settle_line.top =
+    let settling : app_of c.in_ok-settling.settling ≡ settling_line =
     subcommand-added _ _ _ _ c.settle_command.result c.in_ok-settling.ensures c.settle_command.ensures balancing in
-    IfOk-weaker c.with_subcommand-16.result _ _ (λ r adds. subcommand-added _ r _ _ c.decide_command.result adds c.decide_command.ensures settling) c.with_subcommand-16.ensures
+    let deciding : app_of c.in_ok-deciding.deciding ≡ with_subcommand settling_line decide_line.top =
+    subcommand-added _ _ _ _ c.decide_command.result c.in_ok-deciding.ensures c.decide_command.ensures settling in
+    IfOk-weaker c.with_subcommand-17.result _ _ (λ r adds. subcommand-added _ r _ _ c.delivered_command.result adds c.delivered_command.ensures deciding) c.with_subcommand-17.ensures

@@ -7,4 +7,5 @@ returns c = λ line was.
     let referred = c.with_argument-referred.ensures _ _ c.refs_flag.ensures.rule stricter in
     let told = c.with_argument-told.ensures _ _ c.verbose_flag.ensures.rule referred in
     let throttled = c.with_throttle-throttled.ensures _ told in
-    c.with_again.ensures _ throttled
+    let rounds = c.with_again-rounds.ensures _ throttled in
+    c.with_lines.ensures _ rounds

@@ -2,7 +2,7 @@ use Rattle.std.proofs.Common.{◌≡◌, ◌∙◌, sym, refl, ap, Some, None}
 use Rattle.std.specs.Prelude.{option_map}
 use Rattle.clap.specs.Words.{found_of}
 use Rattle.clap.proofs.WalkLemmas.{first_value-rows}
-use Rattle.sms_send.specs.CommandLine.{number_of}
+use Rattle.sms_send.specs.Numbers.{number_of}
 use Rattle.sms_send.proofs.args.values.number_given.Goals as goal
 
 pub returns-in-Some : goal.returns-in-Some

@@ -1,4 +1,4 @@
-use Rattle.std.proofs.Common.{inl, inr, refl}
+use Rattle.std.proofs.Common.{inr, refl}
 use Rattle.std.proofs.lemmas.Result.{IfErr-weaker}
 use Rattle.sms_driver.specs.declared.start_gate.Command.TheVariants.{Go}
 use Rattle.sms_driver.specs.declared.start.StartPhase.TheVariants.{Released}

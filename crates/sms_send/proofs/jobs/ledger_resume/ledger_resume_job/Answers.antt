@@ -1,4 +1,4 @@
-use Rattle.std.proofs.Common.{List, ℕ, inl, inr, refl, subst}
+use Rattle.std.proofs.Common.{List, ℕ, inl, inr, subst}
 use Rattle.std.proofs.lemmas.Result.{IfErr-weaker, IfOk-weaker}
 use Rattle.sms_send.specs.LedgerResuming.{EndsGoing, EndsWhole, FailsGoingWith, FailsWhole}
 use Rattle.sms_send.specs.Resumed.{FailsOpen}

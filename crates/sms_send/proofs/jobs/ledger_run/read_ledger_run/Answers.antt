@@ -1,6 +1,5 @@
-use Rattle.std.proofs.Common.{◌≡◌, ◌∙◌, inl, inr, List, ℕ}
+use Rattle.std.proofs.Common.{◌∙◌, inl, inr}
 use Rattle.std.proofs.lemmas.Result.{IfErr-weaker, IfOk-weaker}
-use Rattle.std.specs.Prelude.{string_bytes}
 use Rattle.sms_send.proofs.Returned.{run_named}
 use Rattle.sms_send.proofs.jobs.ledger_run.read_ledger_run.Goals as goal
 

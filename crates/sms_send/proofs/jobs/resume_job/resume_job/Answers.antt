@@ -1,4 +1,4 @@
-use Rattle.std.proofs.Common.{◌≡◌, ◌<◌, ℕ, List, inl, inr, refl, subst, rules, arith}
+use Rattle.std.proofs.Common.{◌<◌, ℕ, List, inl, inr, refl, subst, rules}
 use Rattle.std.proofs.lemmas.Result.{IfErr-weaker, IfOk-weaker}
 use Rattle.sms_journal.specs.Left.{count_left}
 use Rattle.sms_send.specs.Resumed.{FailsOpen}

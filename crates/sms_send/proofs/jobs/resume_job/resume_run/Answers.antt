@@ -2,6 +2,7 @@ use Rattle.std.proofs.Common.{Err, inl, inr, refl, subst, true}
 use Rattle.sms_devices.specs.Centres.{CentreAt}
 use Rattle.sms_send.specs.Resumed.{FailsResuming}
 use Rattle.sms_send.specs.Sent.{SendingEnd, SendsLeft}
+use Rattle.sms_send.proofs.ConfigFiles.{early_at}
 use Rattle.sms_send.proofs.Noting.{ended_weaker}
 use Rattle.sms_send.proofs.Starts.{memory_at}
 use Rattle.sms_send.proofs.jobs.resume_job.resume_run.Goals as goal
@@ -21,10 +22,23 @@ returns-in-Err-clause-ended g c = record {
   sent = tt;
   status = tt;
   started = tt;
-  refused = inl (c.in-Err.ensures.refused, refl);
+  refused = inl (inl c.in-Err.ensures.refused, refl);
   phase = memory_at _ _ c.requires.not_started c.in-Err.ensures.refused;
   unwritten = λ other kept. refl;
 }
 
 pub returns-in-Err-clause-kept : goal.returns-in-Err-clause-kept
 returns-in-Err-clause-kept g c = (Err c.in-Err.fault, tt, tt)
+
+pub returns-in-Err-inbox_going_on-clause-ended : goal.returns-in-Err-inbox_going_on-clause-ended
+returns-in-Err-inbox_going_on-clause-ended g c = record {
+  sent = tt;
+  status = tt;
+  started = tt;
+  refused = inl (inr c.in-Err-inbox_going_on.ensures.refused, refl);
+  phase = early_at _ _ c.requires.not_started c.in-Err-inbox_going_on.ensures.early;
+  unwritten = λ other kept. refl;
+}
+
+pub returns-in-Err-inbox_going_on-clause-kept : goal.returns-in-Err-inbox_going_on-clause-kept
+returns-in-Err-inbox_going_on-clause-kept g c = (Err c.in-Err-inbox_going_on.fault, tt, tt)

@@ -8,7 +8,7 @@ use Rattle.sms_send.specs.declared.args.send_args.JournalFile.{JournalFile}
 use Rattle.sms_send.specs.PlainFiles.{left_in, sees}
 use Rattle.sms_send.proofs.ConfigFiles.{early_at}
 use Rattle.sms_send.proofs.Noting.{ended_early, unwanted}
-use Rattle.sms_send.proofs.SendJobs.{input_fails, missing_fails, or_false, or_true, reading_fails, sends_by, unread_fails}
+use Rattle.sms_send.proofs.SendJobs.{inbox_fails, input_fails, missing_fails, or_false, or_true, reading_fails, sends_by, unread_fails}
 use Rattle.sms_send.proofs.Starts.{memory_at, missing_at, reading_at}
 use Rattle.sms_send.proofs.jobs.send_job.send_job.Goals as goal
 
@@ -55,6 +55,12 @@ returns-in_err-target-clause-ended g c =
     ended_early c.from_residual-in_err-target.result _ _ _ _ _ _ c.from_residual-in_err-target.ensures.1
     (inl (inl c.in_err-target.ensures.refused))
     (memory_at _ _ c.requires.not_started c.in_err-target.ensures.refused)
+
+pub returns-in_err-inbox-clause-ended : goal.returns-in_err-inbox-clause-ended
+returns-in_err-inbox-clause-ended g c =
+    ended_early c.from_residual-in_err-inbox.result _ _ _ _ _ _ c.from_residual-in_err-inbox.ensures.1
+    (inbox_fails (FailsBegin (g.R.JournalFiles.makes c.args.rt.now) (g.R.JournalFiles.refuses c.args.rt.now) (g.R.JournalFiles.holds c.args.rt.now)) (sees c.args.order.refs (g.R.InputFiles.finds c.args.rt.now)) (g.R.Connects.tells c.args.rt.now) c.args.kind c.args.order _ _ _ c.in_ok-read.read c.in_ok-read.ensures.read c.in_err-inbox.ensures.refused)
+    (early_at _ _ c.requires.not_started c.in_err-inbox.ensures.early)
 
 pub returns-in_err-opened-clause-ended : goal.returns-in_err-opened-clause-ended
 returns-in_err-opened-clause-ended g c =

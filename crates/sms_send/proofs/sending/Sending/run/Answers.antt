@@ -1,12 +1,12 @@
-use Rattle.std.proofs.Common.{inl, refl, ap, sym, subst}
+use Rattle.std.proofs.Common.{inl, ap, sym, subst}
 use Rattle.std.specs.Prelude.{map, string_bytes}
-use Rattle.sms_driver.specs.declared.fault.BindFailure.TheVariants.{NoConnection}
 use Rattle.sms_send.specs.Reached.{centre_of}
 use Rattle.sms_send.specs.Sent.{IsDeaf, FailsOver, SendingEnd, SendsWork, unknown}
-use Rattle.sms_send.specs.declared.faults.fault.Fault.TheVariants.{BindFailed}
 use Rattle.sms_send.specs.declared.sending.target.Target.{Target}
-use Rattle.sms_send.proofs.Keeping.{kept_reasoned, unkept}
+use Rattle.sms_send.proofs.Keeping.{kept_reasoned}
+use Rattle.sms_send.proofs.Noting.{ended_early}
 use Rattle.sms_send.proofs.Reasons.{reasoned_end}
+use Rattle.sms_send.proofs.Starts.{deaf_at}
 use Rattle.sms_send.proofs.Reaching.{over_loopback, over_remote}
 use Rattle.sms_send.proofs.sending.Sending.run.Goals as goal
 
@@ -18,15 +18,11 @@ returns-in-Remote-clause-ended g c =
     (FailsOver unknown tells c.args.self.now.again c.args.work (g.W.Write.contents c.args.output.now) (g.W.Write.contents c.send_over-sent.new.output)) c.send_over-sent.new.start.begun c.args.output.now c.send_over-sent.new.output c.send_over-sent.result)
     _ _ _ _ _ c.in-Remote.is c.as_str.ensures.value c.new-outboxes.ensures.journal c.send_over-sent.ensures.ended)
 
-pub returns-in_default-clause-ended : goal.returns-in_default-clause-ended
-returns-in_default-clause-ended g c = record {
-  sent = tt;
-  status = tt;
-  started = tt;
-  refused = inl (subst (λ (t : Target). IsDeaf (centre_of t) (BindFailed 0 NoConnection)) (sym c.in-Loopback.is) refl);
-  phase = c.requires.not_started;
-  unwritten = λ other kept. refl;
-}
+pub returns-in_err-listener-in-Loopback-clause-ended : goal.returns-in_err-listener-in-Loopback-clause-ended
+returns-in_err-listener-in-Loopback-clause-ended g c =
+    ended_early c.from_residual.result _ _ _ _ _ _ c.from_residual.ensures.1
+    (inl (subst (λ (t : Target). IsDeaf (centre_of t) c.in_err-listener-in-Loopback.field-0.0) (sym c.in-Loopback.is) c.in_err-listener-in-Loopback.ensures.refused))
+    (deaf_at _ _ c.requires.not_started c.in_err-listener-in-Loopback.ensures.refused)
 
 pub returns-clause-ended : goal.returns-clause-ended
 returns-clause-ended g c =
@@ -38,9 +34,6 @@ returns-clause-ended g c =
 
 pub returns-in-Remote-clause-kept : goal.returns-in-Remote-clause-kept
 returns-in-Remote-clause-kept g c = λ none. kept_reasoned c.reasoned.result c.send_over-sent.result _ _ _ c.reasoned.ensures.sent c.reasoned.ensures.told c.send_over-sent.ensures.kept
-
-pub returns-in_default-clause-kept : goal.returns-in_default-clause-kept
-returns-in_default-clause-kept g c = λ none. unkept (g.W.Write.contents c.args.output.now) (g.W.Write.contents c.args.output.now) (BindFailed 0 NoConnection) c.args.kept.now none
 
 pub returns-clause-kept : goal.returns-clause-kept
 returns-clause-kept g c =

@@ -1,4 +1,4 @@
-use Rattle.std.proofs.Common.{◌≡◌, ℕ, ◌∙◌, ◌+◌, inl, refl, List, ap, ap₂, length, subst, sym}
+use Rattle.std.proofs.Common.{ℕ, ◌∙◌, ◌+◌, inl, refl, List, ap, ap₂, length, subst, sym}
 use Rattle.std.proofs.lemmas.Result.{IfOk-weaker}
 use Rattle.std.specs.List.{AllZip}
 use Rattle.sms_book.specs.declared.opening.Opening.{Opening}
