@@ -1,6 +1,7 @@
 """Jobs made for tests, and runs whose reports are made up."""
 import os
 import tempfile
+import time
 import unittest
 
 from jobs import ACCOUNTS, MESSAGES, WITH_REFS, Job, messages_of, read_accounts, read_numbers
@@ -11,12 +12,22 @@ HOME = os.path.dirname(os.path.dirname(os.path.dirname(os.path.realpath(__file__
 PROGRAM = f"{HOME}/release/sms-send-x86_64-linux-gnu"
 
 
+def empty(room):
+    """Removes a folder. A process that a test has killed may write to it for a moment yet."""
+    for _ in range(50):
+        try:
+            return room.cleanup()
+        except OSError:
+            time.sleep(0.1)
+    room.cleanup()
+
+
 class Case(unittest.TestCase):
     """A test with a folder of its own."""
 
     def setUp(self):
         room = tempfile.TemporaryDirectory()
-        self.addCleanup(room.cleanup)
+        self.addCleanup(empty, room)
         self.folder = f"{room.name}/job"
         os.makedirs(self.folder)
 
