@@ -57,8 +57,9 @@ class Centre:
                 return
             self.streams.append(stream)
             self.peers.append(peer[0])
-            self.threads.append(threading.Thread(target=self.serving, args=(stream, len(self.threads)), daemon=True))
-            self.threads[-1].start()
+            serving = threading.Thread(target=self.serving, args=(stream, len(self.threads)), daemon=True)
+            serving.start()
+            self.threads.append(serving)
 
     def when(self, count):
         """An event for the moment when so many submits more were read."""

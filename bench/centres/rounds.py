@@ -1,6 +1,7 @@
 """A folder with the files of a run before a centre that counts, for tools/rounds, and what has to hold of the run over all its rounds."""
 import contextlib
 import os
+import resource
 import signal
 import subprocess
 import sys
@@ -25,6 +26,16 @@ class Wrong(Exception):
 def expect(is_so, what):
     if not is_so:
         raise Wrong(what)
+
+
+def limit_files(most):
+    """What a process does first whose files have this many octets at the most."""
+
+    def limit():
+        signal.signal(signal.SIGXFSZ, signal.SIG_IGN)
+        resource.setrlimit(resource.RLIMIT_FSIZE, (most, most))
+
+    return limit
 
 
 def stop(child):
@@ -69,8 +80,9 @@ class Room:
         put_lines([["account", "source", "destination", "text"], *letters], f"{folder}/messages.csv")
 
     def configure(self, keys=""):
-        usual = f"port = {self.centre.port}\nbase_ms = 1\nanswer_ms = 3000\naccounts = 'accounts.csv'\nmessages = 'messages.csv'\n"
-        put_text(usual + (keys or "window = 4\ndepth = 4\n"), f"{self.folder}/send.toml")
+        usual = {"port": self.centre.port, "base_ms": 1, "answer_ms": 3000, "accounts": "'accounts.csv'", "messages": "'messages.csv'"}
+        lines = [f"{key} = {value}\n" for key, value in usual.items() if f"{key} = " not in keys]
+        put_text("".join(lines) + (keys or "window = 4\ndepth = 4\n"), f"{self.folder}/send.toml")
 
     def does(self, *words, statuses=(0, 4), env=None, **more):
         """What the program prints."""

@@ -34,6 +34,28 @@ class Submit:
     message_id: str | None = None
 
 
+# Every key of a fields file, and what Net::SMPP calls its field.
+FIELDS = """service_type = "OTP"
+source_ton = 3
+source_npi = 0
+destination_ton = 2
+destination_npi = 8
+protocol_id = 64
+priority = 2
+registered_delivery = 2
+replace = true
+schedule = "000001000000000R"
+validity_s = 300
+parameters = ["0204:0007", "1400:31323031", "0019:00"]
+"""
+DECODED = {
+    "service_type": "OTP", "source_addr_ton": 3, "source_addr_npi": 0, "dest_addr_ton": 2, "dest_addr_npi": 8, "protocol_id": 64,
+    "priority_flag": 2, "registered_delivery": 2, "replace_if_present_flag": 1, "schedule_delivery_time": "000001000000000R",
+    "validity_period": "000000000500000R", "sm_default_msg_id": 0, "user_message_reference": "\x00\x07", "5120": "1201",
+    "payload_type": "\x00",
+}
+
+
 def records(name):
     with open(name, newline="", encoding="utf-8") as file:
         return list(csv.reader(file))

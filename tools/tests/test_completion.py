@@ -37,21 +37,29 @@ class Completion(unittest.TestCase):
         self.assertEqual(self.offered("send", "--config", "="), wanted)
 
     def test_other_options_take_each_file(self):
-        for option in ("--journal", "--report", "--messages", "--ledger", "--decisions"):
+        for option in ("--journal", "--report", "--messages", "--ledger", "--decisions", "--inbox"):
             self.assertEqual(self.offered("recover", option, "a"), ["a b.toml", "a.csv", "a.toml", "accounts", "app.toml", "archive"])
 
     def test_a_number_has_no_offers(self):
-        self.assertEqual(self.offered("send", "--rate", ""), [])
+        for option in ("--rate", "--enquire", "--stay"):
+            self.assertEqual(self.offered("send", option, ""), [])
 
     def test_options(self):
         self.assertEqual(self.offered("recover", "--t"), ["--trial"])
-        self.assertEqual(self.offered("loop", "--s"), ["--stop-after", "--strict", "--sync"])
+        for word in ("loop", "send", "resume"):
+            self.assertEqual(self.offered(word, "--s"), ["--stay", "--stop-after", "--strict", "--sync"])
+            self.assertEqual(self.offered(word, "--i"), ["--ids", "--inbox"])
+            self.assertEqual(self.offered(word, "--e"), ["--enquire"])
         self.assertEqual(self.offered("re"), ["recover", "replay", "rest", "resume"])
         self.assertEqual(self.offered("st"), ["stop"])
         self.assertEqual(self.offered("stop", "--"), ["--help", "--journal", "--verbose"])
         self.assertEqual(self.offered("b"), ["balance", "bill"])
         for word in ("bill", "doubtful"):
             self.assertEqual(self.offered(word, "--"), ["--config", "--help", "--journal", "--refs", "--verbose"])
+        self.assertEqual(self.offered("delivered", "--"), ["--config", "--help", "--ids", "--inbox", "--journal", "--refs", "--verbose"])
+        self.assertEqual(self.offered("de"), ["decide", "delivered"])
+        for word in ("send", "delivered"):
+            self.assertEqual(self.offered(word, "--ids", ""), ["dec-hex", "hex-dec"])
         self.assertEqual(self.offered("audit", "--"), ["--config", "--help", "--refs", "--report", "--verbose"])
         self.assertEqual(self.offered("topup", "--"), ["--help", "--ledger", "--ref", "--trial", "--verbose"])
         self.assertEqual(self.offered("balance", "--"), ["--help", "--ledger", "--verbose"])

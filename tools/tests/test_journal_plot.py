@@ -66,6 +66,17 @@ class Plots(unittest.TestCase):
         self.assertEqual(waits[5], (8, 13, 13))
         self.assertEqual(rates[0][0], 1000)
 
+    def test_deliveries_are_by_the_first_final_state(self):
+        found = [(0, 5, "charged", "a"), (10, 15, "charged", "b"), (20, 25, "refused", "c"), (30, 35, "charged", "d"), (40, None, "open", "")]
+        records = [(20, "b", "ACCEPTD"), (31, "b", "UNDELIV"), (38, "b", "DELIVRD"), (29, "a", "DELIVRD"), (33, "c", "DELIVRD"), (39, "x", "DELIVRD")]
+        lines = [f"received,{time},0,1,2,4,{message_id},{state},000,\n" for time, message_id, state in records]
+        name = self.written("".join(lines) + "received,40,0", "inbox")
+        receipts = plot.delivered([name])
+        self.assertEqual(receipts, {"a": 29, "b": 31, "c": 33, "x": 39})
+        self.assertEqual(plot.deliveries(found, receipts, 0, 10, 4), [None, None, (29, 29, 29), (21, 21, 21)])
+        with self.assertRaisesRegex(plot.Fault, "inbox:2: no record"):
+            plot.delivered([self.written(lines[0] + "received,1\n", "inbox")])
+
     def test_a_step_without_answers_is_empty(self):
         _, waits, _ = plot.series([(0, 5, "charged"), (90, None, "open")], 0, 10, 10)
         self.assertEqual(waits, [(5, 5, 5)] + [None] * 9)
@@ -130,6 +141,10 @@ class Plots(unittest.TestCase):
         self.assertLessEqual({"sent", "95 of 100", "tried again", "never answered", "milliseconds until an answer"}, texts)
         self.assertTrue(any("2027-01-15 08:00:00" in it for it in texts), texts)
         self.assertEqual(sorted(os.listdir(self.folder)), ["journal", "other", "out.svg"])
+        inbox = self.written(f"received,{START + 2000},0,1,2,4,8,DELIVRD,000,\n", "inbox")
+        subprocess.run([PLOT, f"{self.folder}/more.svg", "--inbox", inbox, *names], check=True)
+        with open(f"{self.folder}/more.svg") as file:
+            self.assertIn("milliseconds until delivery", file.read())
 
     def test_words(self):
         self.assertEqual(subprocess.run([PLOT], capture_output=True).returncode, 2)

@@ -10,6 +10,8 @@ HOME = os.path.dirname(os.path.dirname(os.path.dirname(os.path.realpath(__file__
 PARTS = ("bench", "crates", "docs", "examples", "fleet", "packaging", "release", "tools")
 # A page or an example that a page names.
 NAMED = re.compile(r"(?:docs|examples|bench)/[A-Za-z0-9_/-]+\.(?:md|svg|csv|toml|conf|out)")
+# A drawing that it shows, which lies beside it.
+SHOWN = re.compile(r"!\[[^]]*\]\(([\w.-]+)\)")
 PAGES = ("README.md", "docs/OPERATING.md", "docs/FORMATS.md", "docs/SCALING.md", "docs/INTEROP.md")
 
 
@@ -37,7 +39,8 @@ class Package(unittest.TestCase):
             subprocess.run(["dpkg-deb", "--extract", f"{folder}/made/{made}", f"{folder}/unpacked"], check=True)
             at = f"{folder}/unpacked/usr/share/doc/sms-send"
             for page in PAGES:
-                for name in NAMED.findall(read(f"{at}/{page}").partition("For engineers:")[0]):
+                text = read(f"{at}/{page}").partition("For engineers:")[0]
+                for name in [*NAMED.findall(text), *(os.path.join(os.path.dirname(page), it) for it in SHOWN.findall(text))]:
                     with self.subTest(page=page, name=name):
                         self.assertTrue(os.path.isfile(f"{at}/{name}"), f"{page} names {name}")
 
