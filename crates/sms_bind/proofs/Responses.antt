@@ -11,7 +11,6 @@ use Rattle.sms_pdu.specs.Header.{number_at}
 use Rattle.sms_pdu.proofs.Wholes.{spelled_heads}
 use Rattle.sms_session.specs.declared.session.Response.{Response}
 use Rattle.sms_bind.specs.declared.device.Keeping.{Keeping}
-use Rattle.sms_bind.specs.declared.outcome.FrameOutcome.{FrameOutcome}
 use Rattle.sms_bind.specs.declared.outcome.FrameOutcome.TheVariants.{Replied}
 use Rattle.sms_bind.specs.declared.outcome.Written.{Written}
 use Rattle.sms_bind.specs.Deeds.{IsWritten, Responded, body_for, enquiry_of, pdu_for}
@@ -94,19 +93,21 @@ refused_other r = by_case (r.command == id_of command.DeliverSmResp)
 
 -- ---- which response goes out
 
-pub responded_other : (keeping : Keeping) (r : Response) (written : Written) → acknowledges r ≡ false → IsWritten r written → Responded (answer_to keeping r) (Replied r written)
-responded_other keeping r written other is =
-    subst (λ (b : Bool). Responded (if b && not (allows keeping) then refused r else r) (Replied r written)) (sym other) (written, refl, is)
+pub responded : (keeping : Keeping) (asked response : Response) (written : Written) → response ≡ answer_to keeping asked → IsWritten response written → Responded (answer_to keeping asked) (Replied response written)
+responded keeping asked response written is done = subst (λ (r : Response). Responded r (Replied response written)) is (written, refl, done)
 
-pub responded_allowed : (keeping : Keeping) (r : Response) (written : Written) → allows keeping ≡ true → IsWritten r written → Responded (answer_to keeping r) (Replied r written)
-responded_allowed keeping r written allowed is =
+pub answer_other : (keeping : Keeping) (r : Response) → acknowledges r ≡ false → r ≡ answer_to keeping r
+answer_other keeping r other = subst (λ (b : Bool). r ≡ (if b && not (allows keeping) then refused r else r)) (sym other) refl
+
+pub answer_allowed : (keeping : Keeping) (r : Response) → allows keeping ≡ true → r ≡ answer_to keeping r
+answer_allowed keeping r allowed =
     let same : (acknowledges r && not true) ≡ false = and_false (acknowledges r) in
-    subst (λ (b : Bool). Responded (if acknowledges r && not b then refused r else r) (Replied r written)) (sym allowed) (subst (λ (b : Bool). Responded (if b then refused r else r) (Replied r written)) (sym same) (written, refl, is))
+    subst (λ (b : Bool). r ≡ (if acknowledges r && not b then refused r else r)) (sym allowed) (subst (λ (b : Bool). r ≡ (if b then refused r else r)) (sym same) refl)
   where
     and_false : (b : Bool) → (b && false) ≡ false
     and_false true = refl
     and_false false = refl
 
-pub responded_refused : (keeping : Keeping) (r : Response) (deed : FrameOutcome) → acknowledges r ≡ true → allows keeping ≡ false → Responded (refused r) deed → Responded (answer_to keeping r) deed
-responded_refused keeping r deed is unkept done =
-    subst (λ (b : Bool). Responded (if b && not (allows keeping) then refused r else r) deed) (sym is) (subst (λ (b : Bool). Responded (if not b then refused r else r) deed) (sym unkept) done)
+pub answer_refused : (keeping : Keeping) (r : Response) → acknowledges r ≡ true → allows keeping ≡ false → refused r ≡ answer_to keeping r
+answer_refused keeping r is unkept =
+    subst (λ (b : Bool). refused r ≡ (if b && not (allows keeping) then refused r else r)) (sym is) (subst (λ (b : Bool). refused r ≡ (if not b then refused r else r)) (sym unkept) refl)

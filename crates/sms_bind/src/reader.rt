@@ -214,6 +214,7 @@ fn read_all<N: LogName, R: Read, W: Write, S: Wait, D: ReaderDevice>(
         follower,
         keeps: device.keeps(),
         number: EnquiryNumber { number },
+        next_slot: 0,
     };
     let rest = framer.into_rest();
     let before = reader.faults();

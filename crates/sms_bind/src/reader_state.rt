@@ -10,7 +10,7 @@ ghost use Rattle.sms_session.specs.Session.{IsBound, on_table};
 ghost use Rattle.sms_session.specs.declared.session.Action.TheVariants.{Reply as ReplyAction};
 ghost use Rattle.sms_session.specs.declared.session.Response.{Response};
 ghost use Rattle.sms_slot.specs.Rings.{handed};
-ghost use Rattle.sms_bind.specs.Deeds.{Suits, Follow, TakesRoom, Responded, entry, stretch_of, IsWithin};
+ghost use Rattle.sms_bind.specs.Deeds.{Suits, Follow, TakesRoom, Responded, entry, stretch_of, IsWithin, IsWritten};
 ghost use Rattle.sms_bind.specs.Follows.{Follows};
 ghost use Rattle.sms_bind.specs.Keepings.{Covers, allows, answer_to, is_asked, refused};
 ghost use Rattle.sms_bind.specs.ReaderStates.{Handled, IsReady};
@@ -23,7 +23,7 @@ use crate::device::Keeping;
 use crate::ending::ReaderCause;
 use crate::follower::Follower;
 use crate::log::LogName;
-use crate::outcome::{FrameOutcome, cause_of};
+use crate::outcome::{FrameOutcome, Written, cause_of};
 use crate::reader::EnquiryNumber;
 use crate::replying::{acknowledge, acknowledges, reply};
 use rtrb::Producer;
@@ -44,6 +44,8 @@ pub(crate) struct ReaderState {
     pub keeps: bool,
     /// The sequence_number by which the line is asked.
     pub number: EnquiryNumber,
+    /// The slot behind that of the last answer: the next answer mostly is for it.
+    pub next_slot: u32,
 }
 
 impl ReaderState {
@@ -53,12 +55,12 @@ impl ReaderState {
         &mut self,
         context: &ReaderContext<N, W, S>,
         frame: &[u8],
-        keeping: Keeping<'_>,
+        keeping: &Keeping<'_>,
     ) -> Option<ReaderCause>
-        requires ready { IsReady (is_asked keeping) self.old }
+        requires ready { IsReady (is_asked keeping.now) self.old }
         requires same_window { self.old.follower.now.window ≡ context.now.window.now }
         requires frame { IsFrame frame.now }
-        requires covers { Covers frame.now keeping }
+        requires covers { Covers frame.now keeping.now }
         requires room { self.old.counts.frames + 1 < 2 ^ 64 }
         ensures follows { Follows self.old.follower self.new.follower }
         ensures handled { Handled self.old.session result self.old self.new (frame.now ∷ []) }
@@ -78,16 +80,16 @@ impl ReaderState {
         &mut self,
         context: &ReaderContext<N, W, S>,
         frame: &[u8],
-        keeping: Keeping<'_>,
+        keeping: &Keeping<'_>,
     ) -> FrameOutcome
-        requires bound { IsBound self.old.session × (is_asked keeping ≡ self.old.keeps) }
+        requires bound { IsBound self.old.session × (is_asked keeping.now ≡ self.old.keeps) }
         requires same_window { self.old.follower.now.window ≡ context.now.window.now }
-        requires frame { IsFrame frame.now × Covers frame.now keeping }
+        requires frame { IsFrame frame.now × Covers frame.now keeping.now }
         ensures follows { Follows self.old.follower self.new.follower }
         ensures follow { Follow result self.old.follower self.new.follower }
         ensures suits { Suits self.old.keeps self.old.session frame.now result }
         // It is what became of this stream's deliver_sm that decides.
-        ensures answered { (response : Response) → (on_table self.old.session (header_at_front frame.now)).0 ≡ ReplyAction response → Responded (answer_to keeping.entry response) result }
+        ensures answered { (response : Response) → (on_table self.old.session (header_at_front frame.now)).0 ≡ ReplyAction response → Responded (answer_to keeping.now response) result }
         ensures rings { AllZip SameProducer self.old.producers.items self.new.producers.items }
         ensures sends { map sent self.new.producers.items ≡ handed (map sent self.old.producers.items) (entry result) }
         ensures room { TakesRoom result (map known_free self.old.producers.items) (map known_free self.new.producers.items) }
@@ -104,8 +106,14 @@ impl ReaderState {
                     delivery: self.apply_reply(context, &answer),
                 }
             }
-            Action::Reply(response) => respond(context, frame, keeping, response),
-            Action::ReplyClose(response) => respond(context, frame, keeping, response),
+            Action::Reply(asked) => {
+                let (response, written) = respond(context, frame, keeping, asked);
+                FrameOutcome::Replied { response, written }
+            }
+            Action::ReplyClose(asked) => {
+                let (response, written) = respond(context, frame, keeping, asked);
+                FrameOutcome::Replied { response, written }
+            }
             Action::Note => FrameOutcome::Noted,
             Action::Close => FrameOutcome::Closed,
             Action::Drop => FrameOutcome::Closed,
@@ -127,9 +135,13 @@ impl ReaderState {
         ensures unchanged { (self.new.session ≡ self.old.session) × (self.new.counts ≡ self.old.counts) × (self.new.keeps ≡ self.old.keeps) }
     {
         let rings = self.producers.as_mut_slice();
-        let delivery = context.line.slots.answer(context.rt, *reply, rings);
+        let slots = &context.line.slots;
+        let delivery = slots.answer_near(context.rt, self.next_slot, *reply, rings);
         match delivery {
-            Delivery::Found { slot: _, worker: _ } => self.follower.note(context.window, reply),
+            Delivery::Found { slot, worker: _ } => {
+                self.next_slot = slot + 1;
+                self.follower.note(context.window, reply);
+            }
             Delivery::Overrun { slot: _, worker: _ } => {}
             Delivery::Unknown => {}
         }
@@ -137,27 +149,30 @@ impl ReaderState {
     }
 }
 
-/// Writes the response to the request of a frame. A deliver_sm is acknowledged only where it was kept, if it was to be, and else
-/// refused for a time.
+/// Writes the response to the request of a frame, and gives the one that went out. A deliver_sm is acknowledged only where it was
+/// kept, if it was to be, and else refused for a time.
 fn respond<N: LogName, W: Write, S: Wait>(
     context: &ReaderContext<N, W, S>,
     frame: &[u8],
-    keeping: Keeping<'_>,
+    keeping: &Keeping<'_>,
     response: Response,
-) -> FrameOutcome
-    requires covers { Covers frame.now keeping }
+) -> (Response, Written)
+    requires covers { Covers frame.now keeping.now }
     requires number { response.number ≡ number_at 12 frame.now }
-    ensures { Responded (answer_to keeping.entry response) result }
+    ensures response { result.0 ≡ answer_to keeping.now response }
+    ensures written { IsWritten result.0 result.1 }
 {
     if !acknowledges(&response) {
         let written = reply(context, &response);
-        return FrameOutcome::Replied { response, written };
+        return (response, written);
     }
-    if permits(&keeping) {
-        let written = acknowledge(context, &response, keeping, frame);
-        return FrameOutcome::Replied { response, written };
+    if permits(keeping) {
+        let written = acknowledge(context, &response, *keeping, frame);
+        return (response, written);
     }
-    refuse(context, &response)
+    let refusal = refusal_of(&response);
+    let written = reply(context, &refusal);
+    (refusal, written)
 }
 
 /// Whether deliver_sm may be acknowledged.
@@ -183,16 +198,4 @@ fn refusal_of(response: &Response) -> Response
         status: TEMPORARY_ERROR,
         number: response.number,
     }
-}
-
-/// Refuses a deliver_sm for a time.
-fn refuse<N: LogName, W: Write, S: Wait>(
-    context: &ReaderContext<N, W, S>,
-    response: &Response,
-) -> FrameOutcome
-    ensures { Responded (refused response.now) result }
-{
-    let response = refusal_of(response);
-    let written = reply(context, &response);
-    FrameOutcome::Replied { response, written }
 }

@@ -75,7 +75,7 @@ impl ReaderState {
         for frame in frames {
             let octets = frame.as_slice();
             let keeping = device.keep(Arrived { octets });
-            if let Some(cause) = self.handle(context, octets, keeping) {
+            if let Some(cause) = self.handle(context, octets, &keeping) {
                 return Some(cause);
             }
         }
@@ -106,7 +106,7 @@ impl ReaderState {
     {
         let stream = held.as_slice();
         let keeping = device.keep(Arrived { octets: stream });
-        let (used, ended) = self.handle_stream(context, stream, keeping);
+        let (used, ended) = self.handle_stream(context, stream, &keeping);
         drop_front(held, used);
         if let Some(cause) = ended {
             return Some(cause);
@@ -124,11 +124,11 @@ impl ReaderState {
         &mut self,
         context: &ReaderContext<N, W, S>,
         stream: &[u8],
-        keeping: Keeping<'_>,
+        keeping: &Keeping<'_>,
     ) -> (usize, Option<ReaderCause>)
-        requires ready { IsReady (is_asked keeping) self.old }
+        requires ready { IsReady (is_asked keeping.now) self.old }
         requires same_window { self.old.follower.now.window ≡ context.now.window.now }
-        requires stream { IsOf stream.now keeping }
+        requires stream { IsOf stream.now keeping.now }
         requires room { self.old.counts.frames + length stream.now < 2 ^ 64 }
         ensures follows { Follows self.old.follower self.new.follower }
         ensures used { result.0 ≤ length stream.now }

@@ -1,13 +1,9 @@
 //! The slots of one bind, each behind a lock of its own.
 
-ghost use Rattle.std.specs.Prelude.{◌≡◌, ◌<◌, IfErr, length, map, vec_len};
-ghost use Rattle.std.specs.List.{AllZip};
-ghost use Rattle.rtrb.specs.Ring.{sent, known_free, SameProducer};
+ghost use Rattle.std.specs.Prelude.{◌≡◌, ◌<◌, IfErr, vec_len};
 ghost use Rattle.sms_core.specs.Limits.{most_slots};
-ghost use Rattle.sms_slot.specs.Row.{IsInRow};
-ghost use Rattle.sms_slot.specs.Rings.{pushed_to, place_of, HasRing, Room, slot_delivery};
+ghost use Rattle.sms_slot.specs.Row.{IsDelivered};
 ghost use Rattle.sms_slot.specs.Slot.{IsNotAnswered};
-ghost use Rattle.sms_slot.specs.declared.row.Delivery.TheVariants.{Unknown};
 
 use crate::slot::{Expired, NoAnswer, Slot, SlotDelivery, SlotError, Taken};
 use rtrb::Producer;
@@ -117,26 +113,58 @@ impl SlotRow {
         reply: Reply,
         producers: &mut [Producer<Reply>],
     ) -> Delivery
-        ensures slot { IsInRow result }
-        ensures rings { AllZip SameProducer producers.old producers.new }
-        ensures sent { map sent producers.new ≡ pushed_to (map sent producers.old) reply (place_of (slot_delivery result)) }
-        ensures ring { HasRing (slot_delivery result) (length producers.old) }
-        ensures room { Room (slot_delivery result) (map known_free producers.old) (map known_free producers.new) }
-        ensures unknown { result ≡ Unknown → producers.new ≡ producers.old }
+        ensures { IsDelivered reply producers.old producers.new result }
     {
         for slot in 0..MOST_SLOTS {
-            if self.numbers[slot as usize].load(Ordering::SeqCst) != reply.number {
-                continue;
-            }
-            let mut kept = self.slots[slot as usize].lock(rt);
-            // Each turn has a copy of its own, or the borrow checker takes the reply for moved.
+            // (a copy of its own, or the borrow checker takes the reply for moved)
             let this = reply;
-            match kept.answer(this, producers) {
-                SlotDelivery::Matched { worker } => return Delivery::Found { slot, worker },
-                SlotDelivery::Overrun { worker } => return Delivery::Overrun { slot, worker },
-                SlotDelivery::Unknown => {}
+            match self.answer_at(rt, slot, this, producers) {
+                Delivery::Unknown => {}
+                found => return found,
             }
         }
         Delivery::Unknown
+    }
+
+    /// As `answer`, but this slot is looked at first. Answers mostly come in the order of their slots,
+    /// so whoever names the slot behind that of the last answer finds most of them at once.
+    pub fn answer_near<R: Wait>(
+        &self,
+        rt: &R,
+        first: u32,
+        reply: Reply,
+        producers: &mut [Producer<Reply>],
+    ) -> Delivery
+        ensures { IsDelivered reply producers.old producers.new result }
+    {
+        // (as in `answer`)
+        let this = reply;
+        match self.answer_at(rt, first % MOST_SLOTS, this, producers) {
+            Delivery::Unknown => self.answer(rt, reply, producers),
+            found => found,
+        }
+    }
+
+    /// `Slot::answer` of this slot, which is locked only where the answer's number was posted in it.
+    #[tactic(auto, using(crate::proofs::Rings::same_rings))]
+    fn answer_at<R: Wait>(
+        &self,
+        rt: &R,
+        slot: u32,
+        reply: Reply,
+        producers: &mut [Producer<Reply>],
+    ) -> Delivery
+        requires slot { slot < most_slots }
+        ensures { IsDelivered reply producers.old producers.new result }
+    {
+        if self.numbers[slot as usize].load(Ordering::SeqCst) != reply.number {
+            return Delivery::Unknown;
+        }
+        let mut kept = self.slots[slot as usize].lock(rt);
+        match kept.answer(reply, producers) {
+            SlotDelivery::Matched { worker } => Delivery::Found { slot, worker },
+            SlotDelivery::Overrun { worker } => Delivery::Overrun { slot, worker },
+            SlotDelivery::Unknown => Delivery::Unknown,
+        }
     }
 }

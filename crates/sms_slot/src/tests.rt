@@ -11,6 +11,7 @@ use std::fmt::Debug;
 use std::process::Abort;
 use std::sync::Wait;
 
+mod near;
 mod threads;
 
 // Both are the same. A test that compares by a call has a short proof: what is printed where they

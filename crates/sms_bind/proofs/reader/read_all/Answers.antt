@@ -49,7 +49,7 @@ returns-clause-answers g c =
     let rings = map sent c.args.begin.producers.items in
     let begun : concat c.as_slice.result.now ++ c.into_rest-rest.result.items ≡ concat c.args.begin.bound.frames ++ c.args.begin.bound.framer =
     ap (λ fs. concat fs ++ c.into_rest-rest.result.items) c.as_slice.ensures ∙ ap (λ (l : List ℕ). concat c.args.begin.bound.frames ++ l) c.into_rest-rest.ensures.unchanged in
-    let a : ReaderState = record { session = s; producers = c.args.begin.producers; counts = c.new-2.result; follower = c.in-Ok.follower; keeps = c.keeps.result; number = record { number = c.args.begin.number } } in
+    let a : ReaderState = record { session = s; producers = c.args.begin.producers; counts = c.new-2.result; follower = c.in-Ok.follower; keeps = c.keeps.result; number = record { number = c.args.begin.number }; next_slot = 0 } in
     let held : Held = held_none c.args.begin.seat (most_held c.args.begin.follow) in
     let first : c.in-Ok.follower ≡ held = c.in-Ok.ensures.ok ∙ ap (λ (n : ℕ). held_none c.args.begin.seat n) c.most_of.ensures in
     let all = hands_on s a b _ _ r t c.saturating_sub-errors.result c.read-cause.result c.args.begin.bound.bound c.new-2.ensures c.read-cause.ensures.reads in
@@ -86,7 +86,7 @@ returns-clause-room g c =
     let s = c.args.begin.bound.session in
     let rings = map sent c.args.begin.producers.items in
     let free = map known_free c.args.begin.producers.items in
-    let a : ReaderState = record { session = s; producers = c.args.begin.producers; counts = c.new-2.result; follower = c.in-Ok.follower; keeps = c.keeps.result; number = record { number = c.args.begin.number } } in
+    let a : ReaderState = record { session = s; producers = c.args.begin.producers; counts = c.new-2.result; follower = c.in-Ok.follower; keeps = c.keeps.result; number = record { number = c.args.begin.number }; next_slot = 0 } in
     let all = leaves_room s a b _ _ r t c.saturating_sub-errors.result c.read-cause.result c.new-2.ensures c.read-cause.ensures.reads in
     let is : c.ended-2.result ≡ end_of b c.saturating_sub-errors.result c.read-cause.result = search rules in
     subst (λ (e : ReaderEnd). LeavesRoom rings (map sent e.producers.items) free (map known_free e.producers.items) e) (sym is) all

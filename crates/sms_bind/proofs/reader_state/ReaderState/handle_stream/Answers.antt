@@ -66,7 +66,7 @@ handle-requires-clause-covers g c =
     let after = c.split_at.result.1.now in
     let joins : left ≡ f ++ after = c.split_at.ensures.by_index.0 in
     let is : IsFrame f = subst IsFrame (sym c.split_at.ensures.front) c.in-Some.ensures.frame.1 in
-    covers_of c.args.stream.now f c.args.keeping c.requires.stream record { before = w.frames; after = after; is = w.whole ∙ ap (λ l. concat w.frames ++ l) joins; each = w.each; whole = is }
+    covers_of c.args.stream.now f c.args.keeping.now c.requires.stream record { before = w.frames; after = after; is = w.whole ∙ ap (λ l. concat w.frames ++ l) joins; each = w.each; whole = is }
 
 pub handle-requires-clause-ready : goal.handle-requires-clause-ready
 handle-requires-clause-ready g c = record {
