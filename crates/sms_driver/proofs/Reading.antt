@@ -15,14 +15,13 @@ use Rattle.sms_driver.specs.declared.start_gate.Command.TheVariants.{Go, Leave}
 use Rattle.sms_driver.specs.Reads.{HasRead, Reading}
 use Rattle.sms_driver.proofs.Refusals.{some_counted}
 
--- a device that had answered no error
-pub has_read : {Rd : Type 0} (turns : ℕ) (remaining : Rd → Option (List ℕ)) (given : Reading Rd) (old new : Tap Rd) (held : Held) (end : ReaderEnd) (keeps : Bool) → device old ≡ device given.reader → faults_of old ≡ 0 → turns ≤ 2 ^ 40
+-- of a device that had answered no error, over an input that had what the given reader had
+pub has_read : {Rd In : Type 0} (turns : ℕ) (remaining : Rd → Option (List ℕ)) (left_in : In → Option (List ℕ)) (given : Reading Rd) (old new : Tap In) (held : Held) (end : ReaderEnd) (keeps : Bool) → left_in (device old) ≡ remaining (device given.reader) → faults_of old ≡ 0 → turns ≤ 2 ^ 40
     → AllZip SameProducer given.rings end.producers.items
-    → HandsOn keeps given.bound.session (concat given.bound.frames ++ given.bound.framer) (remaining (device old)) (remaining (device new)) (map sent given.rings) (map sent end.producers.items) held end
-    → held.most ≡ most_held given.follow.limit → ReadUntil remaining turns end.errors end.cause old new → (r : HasRead turns remaining given end) × (r.keeps ≡ keeps)
-has_read turns remaining given old new held end keeps same none few rings hands follows read =
-    let there : remaining (device old) ≡ remaining (device given.reader) = ap remaining same in
-    let left = remaining (device new) in (
+    → HandsOn keeps given.bound.session (concat given.bound.frames ++ given.bound.framer) (left_in (device old)) (left_in (device new)) (map sent given.rings) (map sent end.producers.items) held end
+    → held.most ≡ most_held given.follow.limit → ReadUntil left_in turns end.errors end.cause old new → (r : HasRead turns remaining given end) × (r.keeps ≡ keeps)
+has_read turns remaining left_in given old new held end keeps there none few rings hands follows read =
+    let left = left_in (device new) in (
       record {
         same = rings;
         left = left;

@@ -8,5 +8,6 @@ pub returns-clause-read : goal.returns-clause-read
 returns-clause-read g c =
     let task = c.args.reader_task in
     let end = c.read_bind.ensures in
-    let read = has_read c.args.rules.now.turns g.Rd.Read.remaining (reading_of task) end.old end.new (held_none task.seat (most_held task.follow.limit)) c.read_bind.result (g.Rd.ReadsBind.keeps c.into_inner-input.result) (end.is ∙ c.into_inner-input.ensures) end.none (search rules) end.rings end.hands refl end.read in
+    let read = has_read c.args.rules.now.turns g.Rd.Read.remaining g.Rd.Read.remaining (reading_of task) end.old end.new (held_none task.seat (most_held task.follow.limit)) c.read_bind.result (g.Rd.ReadsBind.keeps c.into_inner-input.result)
+    (ap g.Rd.Read.remaining (end.is ∙ c.into_inner-input.ensures)) end.none (search rules) end.rings (search (rules, end.hands)) refl (search (rules, end.read)) in
     (read.0, read.1 ∙ ap g.Rd.ReadsBind.keeps c.into_inner-input.ensures)
