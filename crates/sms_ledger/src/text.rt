@@ -6,16 +6,13 @@ ghost use Rattle.sms_ledger.specs.Text.{entry_text, fate_word as word_of_fate, n
 
 use crate::entry::{Decision, Entry, Fate, Payment, Statement, Taking};
 use crate::name::{Name, RunAccount};
-use itoa::Buffer;
 use sms_files::memory::{self, NoMemory};
 
 /// A comma and the number after it.
 pub(crate) fn write_number(text: &mut String, number: u64) -> Result<(), NoMemory>
     ensures { OnOk result (string_bytes text.new ≡ string_bytes text.old ++ number_field number) }
 {
-    let mut digits = Buffer::new();
-    memory::append(text, ",")?;
-    memory::append(text, digits.format(number))
+    memory::append_number(text, ",", number)
 }
 
 /// A comma and the name after it.

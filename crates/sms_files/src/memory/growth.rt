@@ -5,9 +5,9 @@ ghost use Rattle.std.specs.Char.{encode_utf8};
 ghost use Rattle.std.specs.HashMap.{IsUnchanged, PutsEntry, Updates, get, spare};
 
 use crate::memory::NoMemory;
+use itoa::Buffer;
 use std::alloc::Global;
 use std::collections::HashMap;
-use std::fmt::Write;
 use std::hash::Hash;
 
 /// A copy of a text.
@@ -48,10 +48,9 @@ pub fn append_char(text: &mut String, c: char) -> Result<(), NoMemory>
 pub fn append_number(text: &mut String, label: &str, number: u64) -> Result<(), NoMemory>
     ensures { OnOk result (string_bytes text.new ≡ string_bytes text.old ++ label.now ++ decimal number) }
 {
-    match write!(text, "{label}{number}") {
-        Ok(()) => Ok(()),
-        Err(_) => Err(NoMemory { refused: () }),
-    }
+    let mut digits = Buffer::new();
+    append(text, label)?;
+    append(text, digits.format(number))
 }
 
 /// Appends a value to a list. Where there is room for it memory isn't refused; where it is the list stays, and
