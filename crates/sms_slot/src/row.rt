@@ -116,9 +116,7 @@ impl SlotRow {
         ensures { IsDelivered reply producers.old producers.new result }
     {
         for slot in 0..MOST_SLOTS {
-            // (a copy of its own, or the borrow checker takes the reply for moved)
-            let this = reply;
-            match self.answer_at(rt, slot, this, producers) {
+            match self.answer_at(rt, slot, &reply, producers) {
                 Delivery::Unknown => {}
                 found => return found,
             }
@@ -137,9 +135,7 @@ impl SlotRow {
     ) -> Delivery
         ensures { IsDelivered reply producers.old producers.new result }
     {
-        // (as in `answer`)
-        let this = reply;
-        match self.answer_at(rt, first % MOST_SLOTS, this, producers) {
+        match self.answer_at(rt, first % MOST_SLOTS, &reply, producers) {
             Delivery::Unknown => self.answer(rt, reply, producers),
             found => found,
         }
@@ -151,17 +147,17 @@ impl SlotRow {
         &self,
         rt: &R,
         slot: u32,
-        reply: Reply,
+        reply: &Reply,
         producers: &mut [Producer<Reply>],
     ) -> Delivery
         requires slot { slot < most_slots }
-        ensures { IsDelivered reply producers.old producers.new result }
+        ensures { IsDelivered reply.now producers.old producers.new result }
     {
         if self.numbers[slot as usize].load(Ordering::SeqCst) != reply.number {
             return Delivery::Unknown;
         }
         let mut kept = self.slots[slot as usize].lock(rt);
-        match kept.answer(reply, producers) {
+        match kept.answer(*reply, producers) {
             SlotDelivery::Matched { worker } => Delivery::Found { slot, worker },
             SlotDelivery::Overrun { worker } => Delivery::Overrun { slot, worker },
             SlotDelivery::Unknown => Delivery::Unknown,
